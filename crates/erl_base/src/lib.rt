@@ -16,3 +16,6 @@ pub use list::{Bytes, List, Text};
 pub use memory::NoMemory;
 pub use name::Name;
 pub use refusal::{Fault, Kind, LimitName, Outside, Refusal, ScopeFault};
+
+#[cfg(test)]
+mod tests;

@@ -1,0 +1,5 @@
+pub mod TwosComplement
+pub mod Builtins
+pub mod Kinds
+pub mod BuiltinAnswer
+pub mod View

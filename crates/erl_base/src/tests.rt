@@ -1,0 +1,38 @@
+use crate::{Boxed, Duplicate, FunKey, List, Name};
+use std::cmp::Ordering;
+use std::test::Fail;
+
+#[test]
+fn values_are_made_and_copied(rt: HostRuntime) -> Result<(), Fail> {
+    let alloc = rt.alloc();
+    let mut numbers: List<u32> = List::new(alloc);
+    numbers.push(7)?;
+    numbers.push(8)?;
+    assert_eq!(rt; numbers.pop(), Some(8));
+    let copy: List<u32> = Duplicate::copy(&numbers, alloc)?;
+    assert!(rt; copy.as_slice() == [7u32].as_slice());
+    assert!(rt; !copy.is_empty());
+    let boxed = Boxed::new(alloc, 9u32)?;
+    let other: Boxed<u32> = Duplicate::copy(&boxed, alloc)?;
+    assert_eq!(rt; *boxed.get(), 9);
+    assert_eq!(rt; other.into_inner(), 9);
+    Ok(())
+}
+
+#[test]
+fn names_go_by_their_characters(rt: HostRuntime) -> Result<(), Fail> {
+    let alloc = rt.alloc();
+    let key = FunKey {
+        name: Name::from_text(alloc, "é")?,
+        arity: 2,
+    };
+    let copy = key.copy(alloc)?;
+    assert!(rt; copy.is(&key));
+    assert!(rt; copy.name.as_str() == "é");
+    // The first is one character, but two bytes.
+    let longer = Name::from_text(alloc, "zz")?;
+    assert_eq!(rt; longer.compare(&key.name), Ordering::Less);
+    assert_eq!(rt; key.name.compare(&copy.name), Ordering::Equal);
+    assert!(rt; !longer.is(&key.name));
+    Ok(())
+}

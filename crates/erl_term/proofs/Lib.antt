@@ -1,0 +1,10 @@
+mod Comparing
+mod BitOrder
+mod OrderCode
+mod OrderLaws
+mod BitNumbers
+mod MapLaws
+mod Names
+mod BitText
+mod ListText
+mod Deep

@@ -1,0 +1,10 @@
+pub mod Term
+pub mod TermOrder
+pub mod Terms
+pub mod BitString
+pub mod Segments
+pub mod View
+pub mod WellFormed
+pub mod Comparing
+pub mod TermText
+pub mod Depth

@@ -1,0 +1,168 @@
+ghost use Rattle.std.specs.Prelude.{◌≡◌, IfOk};
+ghost use Rattle.erl_term.specs.WellFormed.{IsFull, IsNormal};
+
+use crate::{Attribute, Bits, Class, Pair, Term, compare, write_term};
+use erl_base::{Boxed, List, Name, NoMemory, SiteId};
+use std::alloc::Global;
+use std::cmp::Ordering;
+use std::test::Fail;
+
+fn comes_before(first: &Term, second: &Term) -> bool
+    requires first { IsNormal first.now }
+    requires second { IsNormal second.now }
+{
+    let forth = compare(first, second);
+    let back = compare(second, first);
+    forth == Ordering::Less && back == Ordering::Greater
+}
+
+fn atom(alloc: Global, text: &str) -> Result<Term, NoMemory>
+    ensures { IfOk result (λ term. IsNormal term) }
+{
+    Ok(Term::Atom(Name::from_text(alloc, text)?))
+}
+
+fn couple(alloc: Global, first: Term, second: Term) -> Result<Term, NoMemory>
+    requires first { IsNormal first }
+    requires second { IsNormal second }
+    ensures { IfOk result (λ term. IsNormal term) }
+{
+    let mut items = List::new(alloc);
+    items.push(first)?;
+    items.push(second)?;
+    Ok(Term::Tuple(items))
+}
+
+#[test]
+fn kinds_rise_in_order(rt: HostRuntime) -> Result<(), Fail> {
+    let alloc = rt.alloc();
+    let int = Term::Int(9);
+    let small = atom(alloc, "a")?;
+    let great = atom(alloc, "b")?;
+    let reference = Term::Reference(0);
+    let external = Term::Extern(
+        Name::from_text(alloc, "m")?,
+        Name::from_text(alloc, "f")?,
+        1,
+    );
+    let local = Term::Fun(Name::from_text(alloc, "m")?, SiteId(7), 9, List::new(alloc));
+    let port = Term::Port(0);
+    let pid = Term::Pid(0);
+    let one = couple(alloc, Term::Int(2), Term::Int(1))?;
+    let two = couple(alloc, Term::Int(2), Term::Nil)?;
+    let map = Term::Map(List::new(alloc));
+    let trace = Term::RawTrace(Class::Error);
+    assert!(rt; comes_before(&int, &small));
+    assert!(rt; comes_before(&small, &great));
+    assert!(rt; comes_before(&great, &reference));
+    assert!(rt; comes_before(&reference, &local));
+    assert!(rt; comes_before(&local, &external));
+    assert!(rt; comes_before(&external, &port));
+    assert!(rt; comes_before(&port, &pid));
+    assert!(rt; comes_before(&pid, &one));
+    assert!(rt; comes_before(&one, &two));
+    assert!(rt; comes_before(&two, &map));
+    assert!(rt; comes_before(&map, &Term::Nil));
+    assert!(rt; comes_before(&Term::Nil, &trace));
+    assert!(rt; int.is(&int));
+    Ok(())
+}
+
+fn listing(alloc: Global) -> Result<Term, NoMemory>
+    ensures { IfOk result (λ term. IsNormal term) }
+{
+    let mut items = List::new(alloc);
+    items.push(Term::Int(1))?;
+    items.push(Term::Int(-2))?;
+    Ok(Term::List(items, Boxed::new(alloc, Term::Pid(0))?))
+}
+
+#[tactic(auto, unfolding(crate::specs::WellFormed::bits_fit, crate::specs::BitString::byte_bits))]
+fn three_bits(alloc: Global) -> Result<Bits, NoMemory>
+    ensures { IfOk result (λ bits. IsFull bits) }
+{
+    let mut bytes = List::new(alloc);
+    bytes.push(0xA0)?;
+    Ok(Bits { length: 3, bytes })
+}
+
+fn mapping(alloc: Global) -> Result<Term, NoMemory>
+    ensures { IfOk result (λ term. IsNormal term) }
+{
+    let mut pairs = List::new(alloc);
+    let key = listing(alloc)?;
+    pairs.push(Pair {
+        key,
+        value: Term::Bits(three_bits(alloc)?),
+    })?;
+    Ok(Term::Map(pairs))
+}
+
+fn attribute(alloc: Global) -> Result<Attribute, NoMemory> {
+    let key = Name::from_text(alloc, "vsn")?;
+    Ok(Attribute {
+        key,
+        value: mapping(alloc)?,
+    })
+}
+
+#[test]
+fn copies_are_made(rt: HostRuntime) -> Result<(), Fail> {
+    let alloc = rt.alloc();
+    let first = attribute(alloc)?;
+    let second = first.copy(alloc)?;
+    assert!(rt; second.key.is(&first.key));
+    Ok(())
+}
+
+fn is_printed(alloc: Global, term: &Term, expected: &str) -> Result<bool, NoMemory>
+    requires { IsNormal term.now }
+{
+    let text = write_term(alloc, term)?;
+    let mut count = 0;
+    for c in expected.chars() {
+        if text.as_slice().get(count).copied() != Some(c) {
+            return Ok(false);
+        }
+        count += 1;
+    }
+    Ok(count == text.len())
+}
+
+fn atom_is_printed(alloc: Global, name: &str, expected: &str) -> Result<bool, NoMemory> {
+    is_printed(alloc, &atom(alloc, name)?, expected)
+}
+
+#[test]
+fn atoms_are_printed(rt: HostRuntime) -> Result<(), Fail> {
+    let alloc = rt.alloc();
+    assert!(rt; atom_is_printed(alloc, "ok_1@Z", "ok_1@Z")?);
+    assert!(rt; atom_is_printed(alloc, "fun", "'fun'")?);
+    assert!(rt; atom_is_printed(alloc, "", "''")?);
+    assert!(rt; atom_is_printed(alloc, "Ok", "'Ok'")?);
+    assert!(rt; atom_is_printed(alloc, "it's \\", "'it\\'s \\\\'")?);
+    assert!(rt; atom_is_printed(alloc, "\n\x7F", "'\\x{a}\\x{7f}'")?);
+    Ok(())
+}
+
+#[test]
+fn terms_are_printed(rt: HostRuntime) -> Result<(), Fail> {
+    let alloc = rt.alloc();
+    assert!(rt;
+        is_printed(
+            alloc,
+            &Term::Int(i128::MIN),
+            "-170141183460469231731687303715884105728"
+        )?
+    );
+    assert!(rt; is_printed(alloc, &listing(alloc)?, "[1,-2|#Pid<0>]")?);
+    assert!(rt; is_printed(alloc, &mapping(alloc)?, "#{[1,-2|#Pid<0>]=><<5:3>>}")?);
+    assert!(rt;
+        is_printed(
+            alloc,
+            &couple(alloc, Term::Nil, Term::RawTrace(Class::Exit))?,
+            "{[],#Trace<exit>}"
+        )?
+    );
+    Ok(())
+}

@@ -1,0 +1,5 @@
+mod Alike
+mod Changed
+mod Loaded
+mod Put
+mod Rooms

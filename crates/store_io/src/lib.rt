@@ -1,0 +1,27 @@
+//! Files and sinks with counts of their faults, and whole reads and writes over them.
+//!
+//! Files are known by their names, and what a store or a sink tells of its contents is what contracts speak of. The
+//! objects in memory tell everything; those of the system tell nothing and only count their faults: they are trusted
+//! to do what the operating system says, so no clause refuses a `RealStore` that makes nothing or a `load` of its that
+//! gives no byte.
+#![tactic(auto)]
+
+mod faulty;
+mod memory;
+mod memory_sink;
+mod real;
+mod sink;
+mod slot;
+mod store;
+mod whole;
+
+pub use faulty::{CallNumbers, FaultySink, FaultyStore};
+pub use memory::MemoryStore;
+pub use memory_sink::MemorySink;
+pub use real::{RealStore, StdSink};
+pub use sink::Sink;
+pub use store::{Failed, Store};
+pub use whole::{LoadFault, MAX_FILE, load_all, put_all, store_all};
+
+#[cfg(test)]
+mod tests;

@@ -1,0 +1,9 @@
+pub mod World
+pub mod Run
+pub mod Meaning
+pub mod Requests
+pub mod Receive
+pub mod MapUpdate
+pub mod View
+pub mod WellFormed
+pub mod Laws

@@ -1,0 +1,49 @@
+-- What a run asks of the world.
+use Rattle.std.specs.Prelude.{[], ◌∷◌, Bool, ◌||◌, codes}
+use Rattle.erl_base.specs.Names.{Name, same_name}
+use Rattle.erl_term.specs.Term as T
+use Rattle.erl_term.specs.Term.{Term, Terms, none, more, Class}
+use Rattle.erl_term.specs.Terms.{Values, word, tagged}
+use Rattle.bif_table.specs.BuiltinAnswer.{Answer, value, raised}
+use Rattle.world_model.specs.World as W
+use Rattle.world_model.specs.World.{Reply}
+use Rattle.world_model.specs.Run.{M, ◌>>=◌, fail, ask}
+use Rattle.world_model.specs.Meaning.{single}
+
+abbrev pub replied : Reply → M Values
+replied r = elim r.how [
+  | W.return ↦ single r.term
+  | W.error ↦ fail T.error r.term
+  | W.exit ↦ fail T.exit r.term
+  | W.throw ↦ fail T.throw r.term
+]
+
+abbrev pub call_out : Name → Name → Values → M Values
+call_out m f vs = ask (W.call m f vs) >>= replied
+
+abbrev pub sent : Term → Reply → M Values
+sent message r = elim r.how [
+  | W.return ↦ single message
+  | W.error ↦ fail T.error (word (codes "badarg"))
+  | W.exit ↦ fail T.error (word (codes "badarg"))
+  | W.throw ↦ fail T.error (word (codes "badarg"))
+]
+
+abbrev pub send_to : Term → Term → M Values
+send_to to message = ask (W.send to message) >>= sent message
+
+abbrev pub answers : Answer → M Values
+answers (value t) = single t
+answers (raised c r) = fail c r
+
+abbrev pub is_send : Name → Bool
+is_send f = same_name f (codes "!") || same_name f (codes "send")
+
+abbrev pub send_or_call : Name → Values → M Values
+send_or_call f (to ∷ message ∷ []) = send_to to message
+send_or_call f vs = call_out (codes "erlang") f vs
+
+abbrev pub exit_of : Class → Term → M Values
+exit_of T.throw r = single r
+exit_of T.exit r = single (tagged (codes "EXIT") r)
+exit_of T.error r = ask W.trace >>= λ t. single (tagged (codes "EXIT") (T.tuple (more r (more t.term none))))

@@ -1,0 +1,17 @@
+//! The world of a process: what it is asked, what it replies, and what happens.
+//!
+//! The functions of `laws` have no body: their clauses are laws of the definitions of asking and receiving.
+#![tactic(auto)]
+
+mod laws;
+#[cfg(test)]
+mod tests;
+mod world;
+
+pub use laws::{
+    asking_happens_once, asking_waits_without_replies, receiving_looks_for_more,
+    receiving_takes_the_first_accepted, serials_rise, taking_takes_one_out,
+};
+pub use world::{
+    Choices, Delay, Happening, Happenings, How, Mailbox, Message, Replies, Reply, Request, Script,
+};
