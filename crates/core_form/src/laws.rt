@@ -1,0 +1,9 @@
+ghost use Rattle.core_form.specs.SiteLaws.{DefinitionsComeFirst, SitesAreCounted};
+
+/// Sites are numbered by their places in the list: as many stand in an expression as are counted, and the definitions
+/// come first.
+#[tactic(auto, using(crate::proofs::Counting::sites_counted))]
+pub fn sites_are_counted()
+    ensures inner { SitesAreCounted }
+    ensures definitions { DefinitionsComeFirst }
+{}

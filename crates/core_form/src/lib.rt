@@ -1,0 +1,14 @@
+//! The syntax tree of a Core Erlang module and its reading as a plain tree; names, degrees and limits are judged elsewhere.
+#![tactic(auto)]
+
+mod copies;
+mod laws;
+mod module;
+mod tree;
+
+pub use laws::sites_are_counted;
+pub use module::{FunName, FunNames, Module, Site, SiteList};
+pub use tree::{
+    Binder, Binders, Clause, Clauses, Def, Defs, Expr, ExprForm, Exprs, KeyPattern, KeyPatterns,
+    MapPart, MapParts, Pattern, PatternForm, Patterns, SegPattern, SegPatterns, Segment, Segments,
+};

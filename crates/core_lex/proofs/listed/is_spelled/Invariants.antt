@@ -1,0 +1,5 @@
+use Rattle.std.proofs.Common.{◌≡◌, drop, bytes_eq}
+use Rattle.core_lex.proofs.listed.is_spelled.Given as goal
+
+abbrev pub invariant-loop-i : goal.invariant-loop-i
+invariant-loop-i l = bytes_eq (drop l.i l.text) (drop l.i l.spelling) ≡ bytes_eq l.text l.spelling

@@ -1,0 +1,7 @@
+pub mod Characters
+pub mod Escapes
+pub mod LexerState
+pub mod Places
+pub mod TokenLaws
+pub mod Tokens
+pub mod Utf8Text

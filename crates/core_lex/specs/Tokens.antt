@@ -1,0 +1,189 @@
+-- The tokens of a text, given as its characters (Core Erlang 1.0.3, lexical definitions; the word list, symbols of maps and
+-- characters as OTP 25 prints them). The longest token is taken.
+use Rattle.std.specs.Prelude.{◌≡◌, ℕ, zero, suc, ◌+◌, ◌-◌, ◌^◌, ◌==◌, Bool, true, false, ◌&&◌, List, [], ◌∷◌, length, take, drop, nat_le, pos, neg_ℤ, bytes_eq, codes, if◌then◌else◌, Option, Some, None, take_while}
+use Rattle.std.specs.List.{list_any}
+use Rattle.std.specs.Char.{len_utf8}
+use Rattle.erl_base.specs.declared.ids.Place.{Place}
+use Rattle.core_lex.specs.declared.token.Token.{Token}
+use Rattle.core_lex.specs.declared.token.TokenKind.{TokenKind}
+use Rattle.core_lex.specs.declared.token.TokenKind.TheVariants.{Word, Symbol, Variable, Atom, Number, Wide, Float, Character, Letters, Bad, End}
+use Rattle.core_lex.specs.Characters.{is_blank, is_lower, is_digit, is_capital, is_name_char, is_sign, is_exponent_mark, is_in_line, first_is, value_from}
+use Rattle.core_lex.specs.Escapes.{quoted_char}
+use Rattle.core_lex.specs.Places.{start, past, byte_len}
+
+-- A lexeme: the kind of the token, or None for a blank or a comment, and how many characters write it.
+abbrev pub Lexeme : Type 0
+Lexeme = Option TokenKind × ℕ
+
+abbrev pub bad : Lexeme
+bad = (Some Bad, 1)
+
+-- ---- words, variables, symbols
+
+abbrev pub words : List (List ℕ)
+words = codes "after" ∷ codes "apply" ∷ codes "attributes" ∷ codes "call" ∷ codes "case" ∷ codes "catch" ∷ codes "do" ∷ codes "end"
+    ∷ codes "fun" ∷ codes "in" ∷ codes "let" ∷ codes "letrec" ∷ codes "module" ∷ codes "of" ∷ codes "primop" ∷ codes "receive"
+    ∷ codes "try" ∷ codes "when" ∷ []
+
+abbrev pub long_symbols : List (List ℕ)
+long_symbols = codes "->" ∷ codes "-|" ∷ codes "=>" ∷ codes ":=" ∷ codes "#{" ∷ codes "}#" ∷ codes "#<" ∷ codes "~{" ∷ codes "}~" ∷ []
+
+abbrev pub short_symbols : List (List ℕ)
+short_symbols = codes "(" ∷ codes ")" ∷ codes "{" ∷ codes "}" ∷ codes "[" ∷ codes "]" ∷ codes "<" ∷ codes ">" ∷ codes "|"
+    ∷ codes "," ∷ codes "/" ∷ codes ":" ∷ codes "=" ∷ []
+
+abbrev pub is_one_of : List (List ℕ) → List ℕ → Bool
+is_one_of table text = list_any (bytes_eq text) table
+
+-- the first character and all name characters after it
+abbrev pub name_len : List ℕ → ℕ
+name_len cs = 1 + length (take_while is_name_char (drop 1 cs))
+
+-- a word begins with a lower-case letter; one that is not listed is a bad token
+unfoldable pub word_at : List ℕ → Lexeme
+word_at cs = let name = take (name_len cs) cs in if is_one_of words name then (Some (Word name), name_len cs) else bad
+
+unfoldable pub variable_at : List ℕ → Lexeme
+variable_at cs = (Some (Variable (take (name_len cs) cs)), name_len cs)
+
+-- the longest symbol: no symbol has more than two characters
+unfoldable pub symbol_at : List ℕ → Lexeme
+symbol_at cs =
+    if is_one_of long_symbols (take 2 cs) then (Some (Symbol (take 2 cs)), 2)
+    else if is_one_of short_symbols (take 1 cs) then (Some (Symbol (take 1 cs)), 1)
+    else bad
+
+-- ---- numbers
+
+abbrev pub sign_len : List ℕ → ℕ
+sign_len cs = if first_is is_sign cs then 1 else 0
+
+abbrev pub begins_number : List ℕ → Bool
+begins_number cs = first_is is_digit (drop (sign_len cs) cs)
+
+-- `e` or `E`, an optional sign and digits; 0 where they do not stand there
+unfoldable pub exponent_len : List ℕ → ℕ
+exponent_len cs =
+    let signs = sign_len (drop 1 cs) in let digits = length (take_while is_digit (drop (1 + signs) cs)) in
+    if first_is is_exponent_mark cs && nat_le 1 digits then 1 + signs + digits else 0
+
+-- what makes a float of an integer: a point and digits, and then an exponent or none; 0 where they do not stand there
+unfoldable pub fraction_len : List ℕ → ℕ
+fraction_len cs =
+    let digits = length (take_while is_digit (drop 1 cs)) in
+    if first_is (λ c. c == 46) cs && nat_le 1 digits then 1 + digits + exponent_len (drop (1 + digits) cs) else 0
+
+-- an integer within 128 signed bits with its value and whether a sign was written, a wider one with the number of its digits
+unfoldable pub integer_of : (minus signed : Bool) (digits : List ℕ) → TokenKind
+integer_of minus signed digits =
+    let n = value_from 10 0 digits in
+    if minus then (if nat_le n (2 ^ 127) then Number (neg_ℤ (pos n)) signed else Wide (length digits))
+    else (if nat_le n (2 ^ 127 - 1) then Number (pos n) signed else Wide (length digits))
+
+-- an optional sign directly before digits, and a fraction or none
+unfoldable pub number_at : List ℕ → Lexeme
+number_at cs =
+    let signs = sign_len cs in let digits = take_while is_digit (drop signs cs) in
+    let whole = signs + length digits in let fraction = fraction_len (drop whole cs) in
+    if fraction == 0 then (Some (integer_of (first_is (λ c. c == 45) cs) (signs == 1) digits), whole) else (Some Float, whole + fraction)
+
+-- ---- quoted texts and characters
+
+abbrev pub with_char : Option (ℕ × ℕ) → Option (List ℕ × ℕ) → Option (List ℕ × ℕ)
+with_char None later = None
+with_char (Some c) None = None
+with_char (Some c) (Some text) = Some (c.0 ∷ text.0, text.1 + 1)
+
+abbrev pub one_longer : Option (List ℕ × ℕ) → Option (List ℕ × ℕ)
+one_longer None = None
+one_longer (Some text) = Some (text.0, text.1 + 1)
+
+-- how many more characters belong to the one that was read
+abbrev pub more_of : Option (ℕ × ℕ) → ℕ
+more_of None = 0
+more_of (Some c) = c.1 - 1
+
+-- The text up to the closing quote, and how many characters write it, that quote counted; None where no quote closes it or
+-- an escape is none. The first `skip` characters belong to an escape that was read.
+abbrev pub quoted_text : (quote : ℕ) → List ℕ → (skip : ℕ) → Option (List ℕ × ℕ)
+quoted_text quote [] skip = None
+quoted_text quote (c ∷ cs) (suc skip) = one_longer (quoted_text quote cs skip)
+quoted_text quote (c ∷ cs) zero =
+    if c == quote then Some ([], 1)
+    else with_char (quoted_char (c ∷ cs)) (quoted_text quote cs (more_of (quoted_char (c ∷ cs))))
+
+abbrev pub quoted_lexeme : (List ℕ → TokenKind) → Option (List ℕ × ℕ) → Lexeme
+quoted_lexeme kind None = bad
+quoted_lexeme kind (Some text) = (Some (kind text.0), 1 + text.1)
+
+-- an atom, a string, and behind `$` a character
+unfoldable pub atom_at : List ℕ → Lexeme
+atom_at cs = quoted_lexeme Atom (quoted_text 39 (drop 1 cs) 0)
+
+unfoldable pub string_at : List ℕ → Lexeme
+string_at cs = quoted_lexeme Letters (quoted_text 34 (drop 1 cs) 0)
+
+abbrev pub character_lexeme : Option (ℕ × ℕ) → Lexeme
+character_lexeme None = bad
+character_lexeme (Some c) = (Some (Character c.0), 1 + c.1)
+
+unfoldable pub character_at : List ℕ → Lexeme
+character_at cs = character_lexeme (quoted_char (drop 1 cs))
+
+-- ---- the whole text
+
+-- `%` and what follows it in its line
+unfoldable pub comment_at : List ℕ → Lexeme
+comment_at cs = (None, 1 + length (take_while is_in_line (drop 1 cs)))
+
+unfoldable pub lexeme_at : List ℕ → Lexeme
+lexeme_at [] = bad
+lexeme_at (c ∷ cs) =
+    if is_blank c then (None, 1)
+    else if c == 37 then comment_at (c ∷ cs)
+    else if is_lower c then word_at (c ∷ cs)
+    else if is_capital c then variable_at (c ∷ cs)
+    else if begins_number (c ∷ cs) then number_at (c ∷ cs)
+    else if c == 39 then atom_at (c ∷ cs)
+    else if c == 34 then string_at (c ∷ cs)
+    else if c == 36 then character_at (c ∷ cs)
+    else symbol_at (c ∷ cs)
+
+abbrev pub token : TokenKind → Place → (from to : ℕ) → Token
+token kind place from to = record { kind = kind; place = place; from = from; to = to }
+
+abbrev pub is_bad : TokenKind → Bool
+is_bad Bad = true
+is_bad _ = false
+
+-- End or a bad token
+abbrev pub is_last : TokenKind → Bool
+is_last Bad = true
+is_last End = true
+is_last _ = false
+
+-- nothing follows a bad token
+abbrev pub unless_bad : TokenKind → List Token → List Token
+unless_bad kind later = if is_bad kind then [] else later
+
+abbrev pub before : Option TokenKind → Place → (from to : ℕ) → List Token → List Token
+before None place from to later = later
+before (Some kind) place from to later = token kind place from to ∷ unless_bad kind later
+
+-- The tokens from a place and a byte on, up to End or the first bad one. The first `skip` characters belong to a lexeme that
+-- was read. A token has the place of its first character and its range of bytes; the range of a bad one is its first character.
+abbrev pub tokens_from : List ℕ → (skip : ℕ) → Place → (byte : ℕ) → List Token
+tokens_from [] skip place byte = token End place byte byte ∷ []
+tokens_from (c ∷ cs) (suc skip) place byte = tokens_from cs skip (past c place) (byte + len_utf8 c)
+tokens_from (c ∷ cs) zero place byte =
+    let lexeme = lexeme_at (c ∷ cs) in
+    before lexeme.0 place byte (byte + byte_len (take lexeme.1 (c ∷ cs))) (tokens_from cs (lexeme.1 - 1) (past c place) (byte + len_utf8 c))
+
+unfoldable pub tokens : List ℕ → List Token
+tokens cs = tokens_from cs 0 start 0
+
+-- the last token, and no other, is End or a bad one
+abbrev pub IsClosed : List Token → Type 0
+IsClosed [] = ⊥
+IsClosed (t ∷ []) = is_last t.kind ≡ true
+IsClosed (t ∷ u ∷ ts) = (is_last t.kind ≡ false) × IsClosed (u ∷ ts)

@@ -1,0 +1,131 @@
+// The tokens of a whole text, lexeme by lexeme.
+ghost use Rattle.std.specs.Prelude.{◌≡◌, ◌<◌, ◌≤◌, ◌^◌, [], ◌++◌, List, length, IfOk, true, false, if◌then◌else◌};
+ghost use Rattle.core_lex.specs.LexerState.{IsNotEnd, AreOpen};
+ghost use Rattle.core_lex.specs.Tokens.{lexeme_at, comment_at, is_bad, before, tokens, IsClosed};
+ghost use Rattle.core_lex.specs.declared.token.Token.{Token};
+
+use crate::classes::{is_blank, is_capital, is_lower, line_len};
+use crate::listed::{symbol, variable, word};
+use crate::number::{begins_number, number};
+use crate::part::behind;
+use crate::place::{byte_len, place_after};
+use crate::quoted::{atom, character, string};
+use crate::token::{Token, TokenKind, Tokens};
+use erl_base::{List, NoMemory, Place};
+use std::alloc::Global;
+
+// The kind of the token at the front, or `None` for a blank or a comment, and how many characters write it.
+#[tactic(auto, unfolding(crate::specs::Tokens::lexeme_at, crate::specs::Tokens::comment_at))]
+fn lexeme(alloc: Global, rest: &[char]) -> Result<(Option<TokenKind>, usize), NoMemory>
+    requires { 0 < length rest.now }
+    ensures value { IfOk result (λ lexeme. lexeme ≡ lexeme_at rest.now) }
+    ensures positive { IfOk result (λ lexeme. 0 < lexeme.1) }
+    ensures fits { IfOk result (λ lexeme. lexeme.1 ≤ length rest.now) }
+    ensures not_end { IfOk result (λ lexeme. IsNotEnd lexeme.0) }
+{
+    let c = rest[0];
+    if is_blank(c) {
+        return Ok((None, 1));
+    }
+    if c == '%' {
+        return Ok((None, 1 + line_len(&rest[1..])));
+    }
+    if is_lower(c) {
+        return word(alloc, rest);
+    }
+    if is_capital(c) {
+        return variable(alloc, rest);
+    }
+    if begins_number(rest) {
+        return Ok(number(rest));
+    }
+    if c == '\'' {
+        return atom(alloc, rest);
+    }
+    if c == '"' {
+        return string(alloc, rest);
+    }
+    if c == '$' {
+        return Ok(character(rest));
+    }
+    symbol(alloc, rest)
+}
+
+fn is_bad(kind: &TokenKind) -> bool
+    ensures { result ≡ is_bad kind.now }
+{
+    match kind {
+        TokenKind::Word(_) => false,
+        TokenKind::Symbol(_) => false,
+        TokenKind::Variable(_) => false,
+        TokenKind::Atom(_) => false,
+        TokenKind::Number(_, _) => false,
+        TokenKind::Wide(_) => false,
+        TokenKind::Float => false,
+        TokenKind::Character(_) => false,
+        TokenKind::Letters(_) => false,
+        TokenKind::Bad => true,
+        TokenKind::End => false,
+    }
+}
+
+// Adds the token of a lexeme, and tells whether it is the last one.
+#[tactic(auto, using(crate::proofs::Closing::open_more, crate::proofs::Closing::closed_by))]
+fn keep(
+    found: &mut Tokens,
+    kind: Option<TokenKind>,
+    place: Place,
+    from: u64,
+    to: u64,
+) -> Result<bool, NoMemory>
+    requires { IsNotEnd kind }
+    ensures kept { IfOk result (λ last. (later : List Token) →
+        found.new ++ (if last then [] else later) ≡ found.old ++ before kind place from to later) }
+    ensures open { IfOk result (λ last. AreOpen found.old → last ≡ false → AreOpen found.new) }
+    ensures closed { IfOk result (λ last. AreOpen found.old → last ≡ true → IsClosed found.new) }
+{
+    match kind {
+        None => Ok(false),
+        Some(kind) => {
+            let last = is_bad(&kind);
+            found.push(Token {
+                kind,
+                place,
+                from,
+                to,
+            })?;
+            Ok(last)
+        }
+    }
+}
+
+/// The tokens of the characters, up to `End` or the first bad one.
+#[tactic(auto, unfolding(crate::specs::Tokens::tokens), using(crate::proofs::Closing::closed_by))]
+pub fn scan(alloc: Global, text: &[char]) -> Result<Tokens, NoMemory>
+    ensures value { IfOk result (λ found. found ≡ tokens text.now) }
+    ensures closed { IfOk result (λ found. IsClosed found) }
+{
+    let mut found = List::new(alloc);
+    let mut at = 0;
+    let mut place = Place { line: 1, column: 1 };
+    let mut byte = 0u64;
+    while at < text.len() {
+        let rest = behind(text, at);
+        let (kind, size) = lexeme(alloc, rest)?;
+        let lexeme = &rest[..size];
+        let to = byte + byte_len(lexeme);
+        if keep(&mut found, kind, place, byte, to)? {
+            return Ok(found);
+        }
+        place = place_after(lexeme, place);
+        byte = to;
+        at += size;
+    }
+    found.push(Token {
+        kind: TokenKind::End,
+        place,
+        from: byte,
+        to: byte,
+    })?;
+    Ok(found)
+}

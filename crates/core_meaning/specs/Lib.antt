@@ -1,0 +1,15 @@
+pub mod SegmentShape
+pub mod PatternMatch
+pub mod MarkedReceive
+pub mod PassedOnTail
+pub mod SubBinaries
+pub mod ReceiveCost
+pub mod Calls
+pub mod Context
+pub mod ClauseChoice
+pub mod MarkingCalls
+pub mod Evaluation
+pub mod CoreRun
+pub mod FreshReferences
+pub mod RunLaws
+pub mod SelectiveReceive
