@@ -1,0 +1,5 @@
+pub mod Digits
+pub mod Growth
+pub mod Forms
+pub mod Unique
+mod Examples

@@ -1,0 +1,5 @@
+use Rattle.asm_text.proofs.Examples.{one_has_text, three_has_text}
+use Rattle.asm_text.proofs.laws.examples_have_their_texts.Goals as goal
+
+pub returns : goal.returns
+returns c = record { one = one_has_text; three = three_has_text }

@@ -1,0 +1,13 @@
+use Rattle.std.proofs.Common.{rules}
+use Rattle.std.proofs.lemmas.Str.{IsUtf8-past_char}
+use Rattle.asm_text.proofs.Growth.{char_added, text_added}
+use Rattle.asm_text.proofs.words.put_str.Goals as goal
+
+pub loop-c-preserved : goal.loop-c-preserved
+loop-c-preserved c = record {
+  utf8 = IsUtf8-past_char _ _ _ c.loop-c.invariant.utf8 c.in-Some.ensures.steps.0;
+  added = char_added _ _ _ _ _ _ c.loop-c.invariant.utf8 c.in-Some.ensures.steps.0 (search rules) c.loop-c.invariant.added;
+}
+
+pub returns : goal.returns
+returns c = text_added _ _ _ _ c.in-None.ensures.steps.0.0 c.loop-c.invariant.added

@@ -1,0 +1,3 @@
+pub mod AssemblyText
+pub mod Printing
+pub mod Examples

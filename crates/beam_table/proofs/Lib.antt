@@ -1,0 +1,8 @@
+pub mod Walk
+pub mod StepLaws
+pub mod LocalCalls
+mod Examples
+mod SmallRuns
+mod WholePrograms
+mod FurtherRuns
+mod BadRuns

@@ -1,0 +1,43 @@
+-- The state of the machine (this project's own, after Erlang/OTP 25's BEAM).
+use Rattle.std.specs.Prelude.{ℕ, List, Bool, Option}
+use Rattle.erl_term.specs.Term.{Term}
+use Rattle.world_model.specs.World.{Message}
+use Rattle.beam_table.specs.Code.{Insn}
+
+pub data Kind : Type 0 where
+  a_try a_catch : Kind
+
+-- what a register or a slot holds
+pub data Cell : Type 0 where
+  unset killed : Cell
+  term : Term → Cell
+  context position marker : ℕ → Cell
+  tag : Kind → ℕ → Cell
+
+-- an activation that waits for a call to return: its frame, and the code with which it goes on
+pub record Activation : Type 0 where
+  pub frame : Option (List Cell)
+  pub back : List Insn
+
+-- a bit string that is being matched, and how many of its bits were taken
+pub record Context : Type 0 where
+  pub bits : List Bool
+  pub at : ℕ
+
+pub record Machine : Type 0 where
+  pub xs : List Cell
+  pub frame : Option (List Cell)
+  pub callers : List Activation
+  pub room : ℕ
+  pub contexts : List Context
+  pub own : Term
+  pub mailbox : List Message
+  pub next_serial : ℕ
+  -- how many messages stand before the save place, and the one that is looked at
+  pub save : ℕ
+  pub window : Option Message
+  -- references with the serial numbers that they are bound to
+  pub markers : List (ℕ × ℕ)
+  pub choices : List Bool
+  pub code : List Insn
+  pub landing : Option Kind

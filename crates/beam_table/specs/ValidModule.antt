@@ -1,0 +1,65 @@
+-- The conditions of a valid module: what a module of an assembly text meets.
+use Rattle.std.specs.Prelude.{ℕ, List, [], ◌∷◌, ◌++◌, map, Bool, true, false, not, ◌&&◌, ◌||◌, eqb, leb, IsTrue}
+use Rattle.erl_base.specs.Names.{Name, same_key}
+use Rattle.erl_base.specs.declared.ids.FunKey.{FunKey}
+use Rattle.erl_term.specs.Term.{Term}
+use Rattle.beam_table.specs.Code.{Insn, label, AsmFun, AsmModule}
+use Rattle.erl_term.specs.WellFormed.{maps_rise}
+use Rattle.beam_table.specs.TextRange.{fits}
+use Rattle.beam_table.specs.Operands.{operands}
+use Rattle.beam_table.specs.OperandBounds.{label_ok, insn_ok, all_own_labels, entry_labels}
+
+abbrev pub every : {A : Type 0} → (A → Bool) → List A → Bool
+every f [] = true
+every f (a ∷ as') = f a && every f as'
+
+abbrev pub is_among : ℕ → List ℕ → Bool
+is_among l [] = false
+is_among l (j ∷ js) = eqb l j || is_among l js
+
+abbrev pub distinct : List ℕ → Bool
+distinct [] = true
+distinct (l ∷ ls) = not (is_among l ls) && distinct ls
+
+abbrev pub labels_in : List Insn → List ℕ
+labels_in [] = []
+labels_in (label l ∷ is) = l ∷ labels_in is
+labels_in (i ∷ is) = labels_in is
+
+abbrev pub labels_of : AsmFun → List ℕ
+labels_of f = f.info ∷ f.entry ∷ labels_in f.code
+
+abbrev pub all_labels : List AsmFun → List ℕ
+all_labels [] = []
+all_labels (f ∷ fs) = labels_of f ++ all_labels fs
+
+abbrev pub entries_of : List AsmFun → List ℕ
+entries_of fs = map (λ f. f.entry) fs
+
+abbrev pub names_own : List ℕ → Insn → Bool
+names_own ls i = every (λ l. is_among l ls) (all_own_labels (operands i).1)
+
+abbrev pub names_entries : List ℕ → Insn → Bool
+names_entries es i = every (λ l. is_among l es) (entry_labels (operands i).1)
+
+unfoldable pub fun_ok : List ℕ → AsmFun → Bool
+unfolding insn_ok
+fun_ok es f = leb f.key.arity 255 && every (λ i. insn_ok i && names_own (labels_of f) i && names_entries es i) f.code
+
+abbrev pub is_key : FunKey → List FunKey → Bool
+is_key f [] = false
+is_key f (g ∷ gs) = same_key f g || is_key f gs
+
+abbrev pub keys_distinct : List FunKey → Bool
+keys_distinct [] = true
+keys_distinct (f ∷ fs) = not (is_key f fs) && keys_distinct fs
+
+unfoldable pub attribute_ok : Name × Term → Bool
+unfolding maps_rise
+attribute_ok p = maps_rise p.1 && fits p.1
+
+pub record Valid (a : AsmModule) : Type 0 where
+  pub labels : IsTrue (every label_ok (all_labels a.funs) && distinct (all_labels a.funs))
+  pub functions : IsTrue (every (fun_ok (entries_of a.funs)) a.funs)
+  pub exports : IsTrue (keys_distinct a.exports && every (λ f. is_key f (map (λ g. g.key) a.funs)) a.exports)
+  pub attributes : IsTrue (every attribute_ok a.attributes)

@@ -1,0 +1,23 @@
+//! The instructions of BEAM assembly, modules of them, and the machine that runs them.
+//! The functions of `laws` have no code: the contract of each is a law of the machine.
+//! Not done: copies of instructions and of modules, whose proof takes more than a minute.
+#![tactic(auto)]
+
+mod asm;
+mod insn;
+mod laws;
+mod operand;
+#[cfg(test)]
+mod tests;
+
+pub use asm::{AsmFun, AsmFuns, AsmModule, FunKeys};
+pub use insn::{Insn, Insns};
+pub use laws::{
+    local_call_adds_one_entry, only_events_change_the_mailbox, raise_unwinds_the_stack,
+    steps_enter_at_most_one, steps_keep_the_stack,
+};
+pub use operand::{
+    BuiltSegments, Comparison, Extern, Flags, GetPair, GetPairs, PutPair, PutPairs, Reg, Segment,
+    SegmentKind, SizeChoice, SizeChoices, Slots, Source, Sources, TypeTest, ValueChoice,
+    ValueChoices,
+};

@@ -1,0 +1,4 @@
+pub mod OneWay
+pub mod RunLaws
+pub mod Noting
+pub mod Keeping

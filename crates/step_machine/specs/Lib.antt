@@ -1,0 +1,5 @@
+pub mod Steps
+pub mod RunFacts
+pub mod Bodies
+pub mod EntryBound
+pub mod Follows

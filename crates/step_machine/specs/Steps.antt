@@ -1,0 +1,99 @@
+-- Machines that make steps, note what they do, and ask the world.
+use Rattle.std.specs.Prelude.{ℕ, zero, suc, List, [], ◌∷◌}
+use Rattle.erl_term.specs.Term.{Term}
+use Rattle.world_model.specs.Run.{Entry, Outcome, waits}
+use Rattle.world_model.specs.World.{Request, Reply, Happening, asked}
+
+pub data Note : Type 0 where
+  happened : Happening → Note
+  entered : Entry → Note
+  examined : ℕ → Note
+  sub_binary : Note
+
+-- what a step leads to: another state, an end, or what must not be; before that it may note something, or
+-- ask for a reply
+pub data Stepped (S : Type 0) : Type 0 where
+  goes : S → Stepped S
+  ends : Outcome Term → Stepped S
+  bad : Stepped S
+  notes : Note → Stepped S → Stepped S
+  asks : Request → (Reply → Stepped S) → Stepped S
+
+pub data End : Type 0 where
+  over : Outcome Term → End
+  unfinished : End
+  is_bad : End
+
+-- what a run noted, the latest first, and its end
+pub record Ran : Type 0 where
+  pub log : List Note
+  pub end : End
+
+abbrev pub ran : List Note → End → Ran
+ran log e = record { log = log; end = e }
+
+abbrev pub perform : {S : Type 0} → Stepped S → (S → List Reply → List Note → Ran) → List Reply → List Note → Ran
+perform (goes m) k rs log = k m rs log
+perform (ends o) k rs log = ran log (over o)
+perform bad k rs log = ran log is_bad
+perform (notes n s) k rs log = perform s k rs (n ∷ log)
+perform (asks q f) k [] log = ran log (over (waits q))
+perform (asks q f) k (r ∷ rs) log = perform (f r) k rs (happened (asked q r) ∷ log)
+
+-- j steps more than k
+abbrev pub up : ℕ → ℕ → ℕ
+up zero k = k
+up (suc j) k = suc (up j k)
+
+-- at most k steps
+unfoldable pub run : {S : Type 0} → (S → Stepped S) → ℕ → S → List Reply → List Note → Ran
+run step zero m rs log = ran log unfinished
+run step (suc k) m rs log = perform (step m) (run step k) rs log
+
+abbrev pub happenings : List Note → List Happening
+happenings [] = []
+happenings (happened h ∷ ns) = h ∷ happenings ns
+happenings (_ ∷ ns) = happenings ns
+
+abbrev pub entries : List Note → List Entry
+entries [] = []
+entries (entered e ∷ ns) = e ∷ entries ns
+entries (_ ∷ ns) = entries ns
+
+-- the functions that local calls entered
+abbrev pub sites : List Note → List ℕ
+sites [] = []
+sites (entered e ∷ ns) = e.site ∷ sites ns
+sites (_ ∷ ns) = sites ns
+
+-- the serials of the messages that were looked at
+abbrev pub serials : List Note → List ℕ
+serials [] = []
+serials (examined n ∷ ns) = n ∷ serials ns
+serials (_ ∷ ns) = serials ns
+
+abbrev pub subs : List Note → ℕ
+subs [] = 0
+subs (sub_binary ∷ ns) = suc (subs ns)
+subs (_ ∷ ns) = subs ns
+
+-- where a run stands after k steps, or how it ended before
+pub data Reached (S : Type 0) : Type 0 where
+  at : S → List Reply → List Note → Reached S
+  stopped : Ran → Reached S
+
+abbrev pub reach_by : {S : Type 0} → Stepped S → (S → List Reply → List Note → Reached S) → List Reply → List Note → Reached S
+reach_by (goes m) k rs log = k m rs log
+reach_by (ends o) k rs log = stopped (ran log (over o))
+reach_by bad k rs log = stopped (ran log is_bad)
+reach_by (notes n s) k rs log = reach_by s k rs (n ∷ log)
+reach_by (asks q f) k [] log = stopped (ran log (over (waits q)))
+reach_by (asks q f) k (r ∷ rs) log = reach_by (f r) k rs (happened (asked q r) ∷ log)
+
+unfoldable pub reach : {S : Type 0} → (S → Stepped S) → ℕ → S → List Reply → List Note → Reached S
+reach step zero m rs log = at m rs log
+reach step (suc k) m rs log = reach_by (step m) (reach step k) rs log
+
+abbrev pub go_on : {S : Type 0} → Reached S → (S → List Reply → List Note → Ran) → Ran
+go_on (at m rs log) f = f m rs log
+go_on (stopped r) f = r
