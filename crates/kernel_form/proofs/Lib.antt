@@ -1,0 +1,5 @@
+mod Modules
+pub mod Agreeing
+pub mod Steady
+mod Examples
+mod Checked

@@ -1,0 +1,173 @@
+// Expressions and decision trees. Let chains, the second trees of `Either` and the first ones of `Step` are as long as a
+// body, so what walks them goes along in a loop.
+
+use crate::pattern::{KPats, KSeg, KSegs};
+use crate::value::{KSimple, KValue, KValues, Vars};
+use erl_base::{Boxed, List, VarId};
+use erl_term::Term;
+
+/// `Let` has the variables, what gives their values, and the body. `Try` has the tried part, the variables and body for
+/// its values, and the variables and body for what it raises. `Receive` has its number, the variable of the message, its
+/// clauses, the timeout and the body after it.
+#[cycle(tree)]
+pub enum KExpr {
+    Values(KValues),
+    Simple(KSimple),
+    Let(Vars, Boxed<KExpr>, Boxed<KExpr>),
+    Match(Tree),
+    Try(Boxed<KExpr>, Vars, Boxed<KExpr>, Vars, Boxed<KExpr>),
+    Catch(Boxed<KExpr>),
+    Receive(u32, VarId, Tree, KValue, Boxed<KExpr>),
+}
+
+/// A `Fall` goes to the second tree of the nearest `Either` with its number that holds it in the first one. `Switch`,
+/// `Segments`, `Step` and `Guarded` have the tree to go on with where they fail as their last part.
+#[cycle(tree)]
+pub enum Tree {
+    Body(Boxed<KExpr>),
+    Fall(u32),
+    Either(u32, Boxed<Tree>, Boxed<Tree>),
+    Switch(VarId, Cases, Boxed<Tree>),
+    Segments(VarId, SegRows, Boxed<Tree>),
+    Step(BinStep, Boxed<Tree>, Boxed<Tree>),
+    Guarded(Boxed<KExpr>, Boxed<Tree>, Boxed<Tree>),
+}
+
+/// What a term may have the shape of, and the variables of its parts.
+#[cycle(tree)]
+#[derive(Drop)]
+pub struct Case {
+    pub shape: Shape,
+    pub parts: Vars,
+    pub then: Tree,
+}
+
+#[cycle(tree)]
+#[derive(Drop)]
+pub struct SegRow {
+    pub segs: KSegs,
+    pub then: Tree,
+}
+
+/// `MapHas` is a map that has the key; its part is the key's value.
+#[derive(Debug, Drop)]
+pub enum Shape {
+    Lit(Term),
+    Cons,
+    Tuple(u32),
+    MapHas(KValue),
+}
+
+/// A step on the bits of a term. `Start` opens the bits of a variable as a context, `Integer` and `Bits` take a segment
+/// from a context, `Done` wants that nothing is left, `Mark` keeps the position and `Back` goes back to it.
+#[derive(Drop)]
+pub enum BinStep {
+    Start(VarId, VarId),
+    Integer(VarId, KSeg),
+    Bits(VarId, KSeg),
+    Done(VarId),
+    Mark(VarId, VarId),
+    Back(VarId, VarId),
+}
+
+/// A clause before it becomes a part of a tree.
+#[derive(Drop)]
+pub struct Row {
+    pub pats: KPats,
+    pub guard: KExpr,
+    pub body: KExpr,
+}
+
+pub type Cases = List<Case>;
+
+pub type SegRows = List<SegRow>;
+
+pub type Rows = List<Row>;
+
+impl Drop for KExpr {
+    #[cycle(drop)]
+    fn drop(mut self) {
+        loop {
+            match self {
+                KExpr::Values(values) => {
+                    let_go(values);
+                    return;
+                }
+                KExpr::Simple(simple) => {
+                    let_go(simple);
+                    return;
+                }
+                KExpr::Let(vars, value, body) => {
+                    let_go(vars);
+                    let_go(value);
+                    self = body.into_inner();
+                }
+                KExpr::Match(tree) => {
+                    let_go(tree);
+                    return;
+                }
+                KExpr::Try(tried, vars, body, caught, handler) => {
+                    let_go(tried);
+                    let_go(vars);
+                    let_go(body);
+                    let_go(caught);
+                    let_go(handler);
+                    return;
+                }
+                KExpr::Catch(body) => {
+                    let_go(body);
+                    return;
+                }
+                KExpr::Receive(_, _, clauses, timeout, after) => {
+                    let_go(clauses);
+                    let_go(timeout);
+                    let_go(after);
+                    return;
+                }
+            }
+        }
+    }
+}
+
+impl Drop for Tree {
+    #[cycle(drop)]
+    fn drop(mut self) {
+        loop {
+            match self {
+                Tree::Body(body) => {
+                    let_go(body);
+                    return;
+                }
+                Tree::Fall(_) => return,
+                Tree::Either(_, first, second) => {
+                    let_go(first);
+                    self = second.into_inner();
+                }
+                Tree::Switch(_, cases, last) => {
+                    let_go(cases);
+                    let_go(last);
+                    return;
+                }
+                Tree::Segments(_, rows, last) => {
+                    let_go(rows);
+                    let_go(last);
+                    return;
+                }
+                Tree::Step(step, then, last) => {
+                    let_go(step);
+                    let_go(last);
+                    self = then.into_inner();
+                }
+                Tree::Guarded(guard, then, last) => {
+                    let_go(guard);
+                    let_go(then);
+                    let_go(last);
+                    return;
+                }
+            }
+        }
+    }
+}
+
+/// A field is dropped through this call, so that its drop is no part of the cycle's own.
+fn let_go<T: Drop>(_value: T) {}

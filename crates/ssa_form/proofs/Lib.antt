@@ -1,0 +1,6 @@
+pub mod MoreBlocks
+pub mod Numbered
+mod Bodies
+mod SmallRuns
+mod SpotRuns
+mod SmallestBody

@@ -1,0 +1,104 @@
+-- What a body has while it runs, and the rules of the places where it keeps its variables' values.
+-- (This project's own, after Erlang/OTP 25's SSA and BEAM.)
+use Rattle.std.specs.Prelude.{ℕ, List, Bool, true, false, Option, Some, None}
+use Rattle.erl_term.specs.Term.{Term, Class}
+use Rattle.world_model.specs.World.{Message}
+use Rattle.world_model.specs.Run.{State, Outcome}
+use Rattle.ssa_form.specs.Ssa.{FrameAction}
+
+-- What a variable holds. A context names an object that its copies share.
+pub data Held : Type 0 where
+  unset : Held
+  term : Term → Held
+  context position marker : ℕ → Held
+
+-- a bit string that is being matched, and how many of its bits were taken
+pub record Context : Type 0 where
+  pub bits : List Bool
+  pub at : ℕ
+
+-- an open handler: the variable that names it, and the block where a raise lands
+pub record Handler : Type 0 where
+  pub tag : ℕ
+  pub landing : ℕ
+
+-- how control leaves for a while or for good: a call, a call or a value that ends the body, or a call that always raises
+pub data Leaving : Type 0 where
+  calls ends_body always_raises : Leaving
+
+-- The rules of a storage S; None is a broken rule. A write and a frame action are told whether they come in the receive
+-- window.
+pub record Storage (S : Type 0) : Type 0 where
+  pub read : S → ℕ → Held
+  pub write : Bool → ℕ → Held → S → Option S
+  -- before an operation that may collect, before control leaves, and where a block begins
+  pub collects : S → Option S
+  pub leaves : Leaving → S → Option S
+  pub arrives : ℕ → S → Option S
+  -- what calls, looks and waits unset
+  pub forgets : S → S
+  -- a handler opens, the innermost one closes
+  pub opens : Handler → S → Option S
+  pub closes : ℕ → S → Option S
+  pub handler : S → Option Handler
+  pub acts : Bool → FrameAction → S → Option S
+
+-- save: how many messages stand before the save place; window: the message that is looked at and not yet taken
+pub record Frame (S : Type 0) : Type 0 where
+  pub store : S
+  pub contexts : List Context
+  pub save : ℕ
+  pub window : Option Message
+
+-- What follows a set: the next one, a choice between the two blocks of a last, a raise, an end, or a broken rule.
+pub data After (S : Type 0) : Type 0 where
+  on : Frame S → State → After S
+  pick : Bool → Frame S → State → After S
+  up : Class → Term → Frame S → State → After S
+  over : State → Outcome Term → After S
+  bad : After S
+
+-- How a run of a body stands: it is over, it broke a rule, or it needs more blocks than it was allowed.
+pub data Ended : Type 0 where
+  done : State → Outcome Term → Ended
+  bad : Ended
+  unfinished : Ended
+
+-- how a block's last takes the last set: not at all, as its result, by the success of it, or by a plain jump
+pub data Mode : Type 0 where
+  plain tail jump : Mode
+  tests : ℕ → Mode
+
+-- what is known of the module: how many parameters each function has, captures included; the parameters, as site and
+-- number, at which a context may come; and whether each marker that is used is still kept
+pub record Around : Type 0 where
+  pub arities : List ℕ
+  pub reached : List (ℕ × ℕ)
+  pub choices : List Bool
+
+abbrev pub in_window : {S : Type 0} → Frame S → Bool
+in_window f = elim f.window [ None ↦ false | Some m ↦ true ]
+
+abbrev pub go_on : {S : Type 0} → After S → (Frame S → State → After S) → After S
+go_on (on f s) k = k f s
+go_on (pick b f s) k = pick b f s
+go_on (up c r f s) k = up c r f s
+go_on (over s o) k = over s o
+go_on After.bad k = After.bad
+
+abbrev pub when : {S : Type 0} → Bool → After S → After S
+when true a = a
+when false a = After.bad
+
+abbrev pub if_some : {A S : Type 0} → Option A → (A → After S) → After S
+if_some None k = After.bad
+if_some (Some a) k = k a
+
+abbrev pub outside : {S : Type 0} → Frame S → After S → After S
+outside f a = elim f.window [ None ↦ a | Some m ↦ After.bad ]
+
+abbrev pub inside : {S : Type 0} → Frame S → (Message → After S) → After S
+inside f k = elim f.window [ None ↦ After.bad | Some m ↦ k m ]
+
+abbrev pub kept : {S : Type 0} → Frame S → S → Frame S
+kept f st = record f { store = st }

@@ -1,0 +1,124 @@
+-- Well-formed bodies.
+use Rattle.std.specs.Prelude.{◌≡◌, ◌≢◌, ℕ, List, [], ◌∷◌, ◌++◌, Some, None, Option, IsTrue, IsFalse, Bool, true, false, not, ◌&&◌, ◌||◌, eqb, leb, length}
+use Rattle.ssa_form.specs.Ssa.{Arg, Op, try_end, landing, catch_end, call_local, Set, Last, succeeded, ret, Phi, Block, Body, block_at}
+use Rattle.ssa_form.specs.Storage.{Handler, Mode}
+use Rattle.ssa_form.specs.SsaRun.{is_tag, from_edge, lands, ends_catch}
+use Rattle.ssa_form.specs.Values.{takes}
+use Rattle.ssa_form.specs.SetFacts.{dst_vars, among, all_among, in_form, breaks_cycle, is_peek, may_raise}
+use Rattle.ssa_form.specs.Flow.{Place, place, set_at, last_at, phis_at, phi_vars, Effect, Step, Way, Reached, Leads, Passing}
+use Rattle.ssa_form.specs.Liveness.{used_at, lands_first}
+use Rattle.ssa_form.specs.ReceiveWindow.{WindowRule}
+
+-- Each variable is set at one place.
+
+abbrev pub chain_sets : List Set → List ℕ
+chain_sets [] = []
+chain_sets (x ∷ xs) = dst_vars x.dst ++ chain_sets xs
+
+abbrev pub block_sets : Option Block → List ℕ
+block_sets None = []
+block_sets (Some x) = phi_vars x.phis ++ chain_sets x.chain
+
+abbrev pub blocks_set : List (Option Block) → List ℕ
+blocks_set [] = []
+blocks_set (o ∷ os) = block_sets o ++ blocks_set os
+
+abbrev pub all_distinct : List ℕ → Bool
+all_distinct [] = true
+all_distinct (v ∷ vs) = not (among v vs) && all_distinct vs
+
+abbrev pub SetsOnce : Body → Type 0
+SetsOnce b = IsTrue (all_distinct (b.params ++ blocks_set b.blocks))
+
+-- Cycles.
+
+abbrev pub any_op : (Op → Bool) → List Set → Bool
+any_op f [] = false
+any_op f (x ∷ xs) = f x.op || any_op f xs
+
+abbrev pub block_has : (Op → Bool) → Option Block → Bool
+block_has f None = false
+block_has f (Some x) = any_op f x.chain
+
+abbrev pub any_has : (Op → Bool) → Body → List ℕ → Bool
+any_has f b [] = false
+any_has f b (n ∷ ns) = block_has f (block_at b n) || any_has f b ns
+
+-- each cycle looks for a message, and holds nothing that moves the save place to the start, and no landing
+pub record KeepsCycle (b : Body) (ns : List ℕ) : Type 0 where
+  pub looks : IsTrue (any_has is_peek b ns)
+  pub goes_on : IsFalse (any_has breaks_cycle b ns)
+
+abbrev pub CycleRule : Body → Type 0
+CycleRule b = (n : ℕ) (ns : List ℕ) → Passing b n n ns → KeepsCycle b ns
+
+-- Landings.
+
+abbrev pub lands_for : ℕ → List Set → Bool
+lands_for v (x ∷ y ∷ z ∷ xs) = (lands v x && lands v y && lands v z) || ends_catch v x
+lands_for v (x ∷ xs) = ends_catch v x
+lands_for v [] = false
+
+abbrev pub is_landing_for : ℕ → Option Block → Bool
+is_landing_for v None = false
+is_landing_for v (Some x) = lands_for v x.chain
+
+abbrev pub closes_first : Op → List Arg → List Handler → Bool
+closes_first try_end as' [] = false
+closes_first try_end as' (h ∷ hs) = is_tag h.tag as'
+closes_first op as' hs = true
+
+abbrev pub is_ret : Last → Bool
+is_ret (ret a) = true
+is_ret _ = false
+
+-- the phis of a block have an argument for the edge from block n
+abbrev pub have_edges : List Phi → ℕ → Bool
+have_edges [] n = true
+have_edges (p ∷ ps) n = elim (from_edge p.from n) [ None ↦ false | Some a ↦ have_edges ps n ]
+
+abbrev pub tests_nothing : Option Last → Bool
+tests_nothing None = true
+tests_nothing (Some (succeeded v t e)) = false
+tests_nothing (Some l) = true
+
+-- `landing` stands among the first three sets of a block that begins so, `catch_end` first
+abbrev pub lands_early : Op → ℕ → Bool → Bool
+lands_early landing k first = leb k 2 && first
+lands_early catch_end k first = eqb k 0
+lands_early op k first = true
+
+-- the block is entered by raises alone
+abbrev pub IsLandingOnly : Body → ℕ → Type 0
+IsLandingOnly b n = (p : Place) (hs is' : List Handler) (e : Effect) → Reached b p hs → Step b p hs (place n 0) is' e
+    → (h : Handler) × (hs ≡ h ∷ is') × (h.landing ≡ n)
+
+pub record WellFormed (b : Body) : Type 0 where
+  pub sets_once : SetsOnce b
+  -- every set has its operands, is taken by its last as it may be, and has the destination that it needs
+  pub in_form : (p : Place) (hs : List Handler) (x : Set) (m : Mode) → Reached b p hs → set_at b p ≡ Some (x, m) → IsTrue (in_form m x)
+  -- on every way to a place, what is read there was set; and what phis read along an edge
+  pub available : (p : Place) (vs : List ℕ) (hs : List Handler) → Way b p vs hs → IsTrue (all_among (used_at b p) vs)
+  pub edges : (p q : Place) (vs : List ℕ) (hs is' : List Handler) (e : Effect) → Way b p vs hs → Step b p hs q is' e → IsTrue (all_among e.reads (e.sets ++ vs))
+  pub phis : (n m : ℕ) → Leads b n m → IsTrue (have_edges (phis_at b m) n)
+  -- ways lead to blocks that are there, and a last that tests has a set to test
+  pub starts : block_at b 0 ≢ None
+  pub leads_on : (n m : ℕ) → Leads b n m → block_at b m ≢ None
+  pub tested : (p : Place) (hs : List Handler) → Reached b p hs → IsTrue (tests_nothing (last_at b p))
+  -- handlers close from the inside out, and none is open where a body ends
+  pub closes : (p : Place) (hs : List Handler) (x : Set) (m : Mode) → Reached b p hs → set_at b p ≡ Some (x, m) → IsTrue (closes_first x.op x.args hs)
+  pub ends : (p : Place) (hs : List Handler) (l : Last) → Reached b p hs → last_at b p ≡ Some l → IsTrue (is_ret l) → hs ≡ []
+  -- raises lead to landing blocks of their handler, and nothing else leads to one
+  pub lands : (p : Place) (h : Handler) (hs : List Handler) (x : Set) (m : Mode) → Reached b p (h ∷ hs) → set_at b p ≡ Some (x, m) → IsTrue (may_raise m x.op) → IsTrue (is_landing_for h.tag (block_at b h.landing))
+  pub enters : (n : ℕ) (hs : List Handler) → Reached b (place n 0) hs → IsTrue (lands_first (set_at b (place n 0))) → IsLandingOnly b n
+  pub early : (p : Place) (hs : List Handler) (x : Set) (m : Mode) → Reached b p hs → set_at b p ≡ Some (x, m) → IsTrue (lands_early x.op p.done (lands_first (set_at b (place p.block 0))))
+  pub cycles : CycleRule b
+  pub windows : WindowRule b
+
+-- every local call has as many arguments as its function has parameters
+abbrev pub call_fits : List ℕ → Op → ℕ → Bool
+call_fits as' (call_local n) k = takes as' n k
+call_fits as' op k = true
+
+abbrev pub CallsFit : List ℕ → Body → Type 0
+CallsFit as' b = (p : Place) (hs : List Handler) (x : Set) (m : Mode) → Reached b p hs → set_at b p ≡ Some (x, m) → IsTrue (call_fits as' x.op (length x.args))

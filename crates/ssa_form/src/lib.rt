@@ -1,0 +1,33 @@
+//! Bodies of functions as basic blocks in SSA form, plain, with spots and with stack frames; who makes them is said elsewhere.
+//! Not proved: that runs end under the cycle rule, and that well-formed bodies read no unset variable.
+// Every call that takes memory may answer NoMemory, which no clause ties to a cause; tests show that the calls can succeed.
+// `Arg::default` fills unused places of short lists, and no clause speaks of it.
+#![tactic(auto)]
+
+mod args;
+mod block;
+mod body;
+mod build;
+mod laws;
+mod op;
+mod placed;
+mod small;
+mod stage;
+
+pub use args::{Arg, Args};
+pub use block::{Block, Edges, Last, Phi, Phis, SwitchChoices};
+pub use body::{
+    Body, Fact, Interval, Intervals, Mark, Marks, NodeIds, Regions, Reuse, ReusedParam, SetLists,
+    VarFacts,
+};
+pub use laws::{body_has_one_result, more_blocks_change_nothing};
+pub use op::{Check, Field, Fields, Op, Set};
+pub use placed::{
+    BlockFrame, BlockFrames, FrameAction, FrameActions, Framed, Move, MoveStep, MoveSteps, Moves,
+    Needs, NodeActions, Placed, Spot, VarSpots,
+};
+pub use small::SmallList;
+pub use stage::{Formed, Ssa, Stage};
+
+#[cfg(test)]
+mod tests;
