@@ -1,0 +1,4 @@
+pub mod Answers
+pub mod FilesKept
+pub mod Notes
+pub mod Headline

@@ -1,0 +1,249 @@
+use crate::notes::note;
+use crate::{Status, run};
+use erl_base::{Kind, LimitName, Outside, Place, Refusal, ScopeFault};
+use std::alloc::Global;
+use std::test::Fail;
+use store_io::{CallNumbers, FaultySink, FaultyStore, MemorySink, MemoryStore};
+
+const ONE: &str = "module 'one' ['one'/0] attributes [] 'one'/0 = fun () -> 1 end";
+
+const ASM: &str = "{module,one}.
+{exports,[{one,0}]}.
+{attributes,[]}.
+{labels,3}.
+
+{function,one,0,2}.
+  {label,1}.
+    {func_info,{atom,one},{atom,one},0}.
+  {label,2}.
+    {move,{integer,1},{x,0}}.
+    return.
+";
+
+const USAGE: &str =
+    "usage: erlc_core compile IN OUT, check IN, list PASS IN, trace S FUN ARGS SCRIPT LIMIT, sample N, verify S\n";
+
+const NOT_BUILT: Status = Status::Refused(Refusal {
+    kind: Kind::Profile(Outside::NotBuilt),
+    place: Place { line: 1, column: 1 },
+});
+
+fn words_of(alloc: Global, text: &str) -> Result<Vec<String>, Fail> {
+    let mut words = Vec::new(alloc);
+    for word in text.split(' ') {
+        words.push(String::from_str(alloc, word)?)?;
+    }
+    Ok(words)
+}
+
+fn numbers(alloc: Global, number: u64) -> Result<CallNumbers, Fail> {
+    let mut failing = CallNumbers::new(alloc);
+    failing.push(number)?;
+    Ok(failing)
+}
+
+#[derive(Drop)]
+struct Row {
+    words: &'static str,
+    text: &'static str,
+    status: Status,
+    notes: &'static str,
+    asm: Option<&'static str>,
+}
+
+#[test]
+fn answers_and_what_they_leave(rt: HostRuntime) -> Result<(), Fail> {
+    let alloc = rt.alloc();
+    let rows = [
+        Row {
+            words: "compile in.core out.S",
+            text: ONE,
+            status: Status::Done,
+            notes: "",
+            asm: Some(ASM),
+        },
+        Row {
+            words: "compile in.core out.S",
+            text: "",
+            status: NOT_BUILT,
+            notes: "in.core:1:1: outside the profile: not built\n",
+            asm: None,
+        },
+        Row {
+            words: "compile in.core",
+            text: ONE,
+            status: Status::Usage,
+            notes: USAGE,
+            asm: None,
+        },
+        Row {
+            words: "compile two.core out.S",
+            text: ONE,
+            status: Status::ReadFault,
+            notes: "two.core: cannot be read\n",
+            asm: None,
+        },
+        Row {
+            words: "compile in.core two.S",
+            text: ONE,
+            status: Status::WriteFault,
+            notes: "two.S: cannot be written\n",
+            asm: None,
+        },
+    ];
+    for row in rows.iter() {
+        let mut store = MemoryStore::new(alloc);
+        store.add("in.core", row.text.as_bytes())?;
+        store.reserve("out.S", 10000)?;
+        let mut out = MemorySink::new(alloc);
+        let mut notes = MemorySink::new(alloc);
+        notes.reserve(1000)?;
+        let words = words_of(alloc, row.words)?;
+        let status = run(alloc, words.as_slice(), &mut store, &mut out, &mut notes);
+        assert_eq!(rt; status, row.status);
+        assert!(rt; notes.bytes() == row.notes.as_bytes());
+        assert!(rt; store.file("out.S") == row.asm.map(|asm| asm.as_bytes()));
+        assert!(rt; store.file("in.core") == Some(row.text.as_bytes()));
+        assert!(rt; out.bytes().is_empty());
+    }
+    Ok(())
+}
+
+#[test]
+fn input_and_output_may_be_one_file(rt: HostRuntime) -> Result<(), Fail> {
+    let alloc = rt.alloc();
+    let mut store = MemoryStore::new(alloc);
+    store.add("one", ONE.as_bytes())?;
+    store.reserve("one", 10000)?;
+    let mut out = MemorySink::new(alloc);
+    let mut notes = MemorySink::new(alloc);
+    let words = words_of(alloc, "compile one one")?;
+    let status = run(alloc, words.as_slice(), &mut store, &mut out, &mut notes);
+    assert_eq!(rt; status, Status::Done);
+    assert!(rt; store.file("one") == Some(ASM.as_bytes()));
+    Ok(())
+}
+
+/// A store whose call with this number fails, and what is left of it: the calls are two loads, a create, an append.
+#[derive(Drop)]
+struct Failing {
+    call: u64,
+    status: Status,
+    asm: Option<&'static str>,
+}
+
+#[test]
+fn a_failing_call_is_told_and_leaves_the_input(rt: HostRuntime) -> Result<(), Fail> {
+    let alloc = rt.alloc();
+    let rows = [
+        Failing {
+            call: 0,
+            status: Status::ReadFault,
+            asm: None,
+        },
+        Failing {
+            call: 1,
+            status: Status::ReadFault,
+            asm: None,
+        },
+        Failing {
+            call: 2,
+            status: Status::WriteFault,
+            asm: None,
+        },
+        Failing {
+            call: 3,
+            status: Status::WriteFault,
+            asm: Some(""),
+        },
+        Failing {
+            call: 4,
+            status: Status::Done,
+            asm: Some(ASM),
+        },
+    ];
+    for row in rows.iter() {
+        let mut inner = MemoryStore::new(alloc);
+        inner.add("in.core", ONE.as_bytes())?;
+        inner.reserve("out.S", 10000)?;
+        let mut store = FaultyStore::new(inner, numbers(alloc, row.call)?);
+        let mut out = MemorySink::new(alloc);
+        // The notes fail too, and change no status.
+        let mut notes = FaultySink::new(MemorySink::new(alloc), numbers(alloc, 0)?);
+        let words = words_of(alloc, "compile in.core out.S")?;
+        let status = run(alloc, words.as_slice(), &mut store, &mut out, &mut notes);
+        assert_eq!(rt; status, row.status);
+        assert!(rt; store.file("in.core") == Some(ONE.as_bytes()));
+        assert!(rt; store.file("out.S") == row.asm.map(|asm| asm.as_bytes()));
+        assert!(rt; notes.bytes().is_empty());
+    }
+    Ok(())
+}
+
+/// A plain module of so many functions, whose assembly text is longer than 8,192 bytes.
+fn long_module(alloc: Global) -> Result<String, Fail> {
+    let mut text = String::from_str(alloc, "module 'long' [] attributes []")?;
+    for number in 0..100u32 {
+        text.push_str(format!(in alloc; " 'f{number}'/1 = fun (X) -> X")?.as_str())?;
+    }
+    text.push_str(" end")?;
+    Ok(text)
+}
+
+#[test]
+fn a_failing_third_append_leaves_two_pieces(rt: HostRuntime) -> Result<(), Fail> {
+    let alloc = rt.alloc();
+    let text = long_module(alloc)?;
+    let mut inner = MemoryStore::new(alloc);
+    inner.add("in.core", text.as_bytes())?;
+    inner.reserve("out.S", 100000)?;
+    // Two loads and the create come first.
+    let mut store = FaultyStore::new(inner, numbers(alloc, 5)?);
+    let mut out = MemorySink::new(alloc);
+    let mut notes = MemorySink::new(alloc);
+    notes.reserve(100)?;
+    let words = words_of(alloc, "compile in.core out.S")?;
+    let status = run(alloc, words.as_slice(), &mut store, &mut out, &mut notes);
+    assert_eq!(rt; status, Status::WriteFault);
+    assert!(rt; notes.bytes() == "out.S: cannot be written\n".as_bytes());
+    assert_eq!(rt; store.file("out.S").map(|asm| asm.len()), Some(8192));
+    Ok(())
+}
+
+#[test]
+fn lines_name_the_place_and_the_count(rt: HostRuntime) -> Result<(), Fail> {
+    let alloc = rt.alloc();
+    let place = Place {
+        line: 1,
+        column: 58,
+    };
+    let rows = [
+        (Kind::TooLarge, "in.core: larger than 16777216 bytes\n"),
+        (Kind::NotUtf8, "in.core:1:58: not UTF-8\n"),
+        (
+            Kind::Scope(ScopeFault::ClauseWidth),
+            "in.core:1:58: wrong clause width\n",
+        ),
+        (
+            Kind::Limit(LimitName::Integer, 39),
+            "in.core:1:58: integer literal of 39 digits\n",
+        ),
+        (
+            Kind::Limit(LimitName::Nodes, 20001),
+            "in.core:1:58: 20001 nodes\n",
+        ),
+        (
+            Kind::Limit(LimitName::Nesting, 2001),
+            "in.core:1:58: nesting 2001\n",
+        ),
+        (Kind::Script, "in.core: no script for this run\n"),
+    ];
+    for (kind, line) in rows.iter() {
+        let mut notes = MemorySink::new(alloc);
+        notes.reserve(100)?;
+        let status = Status::Refused(Refusal { kind: *kind, place });
+        note(&mut notes, status, "in.core", "out.S");
+        assert!(rt; notes.bytes() == line.as_bytes());
+    }
+    Ok(())
+}

@@ -1,0 +1,11 @@
+pub mod Bridge
+pub mod Carried
+pub mod Correct
+pub mod EachOnce
+pub mod Fronts
+pub mod KeyLists
+pub mod Literals
+pub mod Names
+pub mod Plainness
+pub mod Printable
+pub mod Reading

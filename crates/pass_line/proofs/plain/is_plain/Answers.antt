@@ -1,0 +1,19 @@
+use Rattle.std.proofs.Common.{rules, arith, ap, ◌∙◌}
+use Rattle.pass_line.specs.PlainModule.{are_known}
+use Rattle.pass_line.proofs.Plainness.{too_many, doubled, attributed, told, ok_then}
+use Rattle.pass_line.proofs.plain.is_plain.Goals as goal
+
+pub returns-then-len-gt20000 : goal.returns-then-len-gt20000
+returns-then-len-gt20000 c = (λ t. absurd cc, λ p. absurd (too_many c.args.tree.now.defs (omega arith) p.few_functions))
+
+pub returns-then-not-is_empty : goal.returns-then-not-is_empty
+returns-then-not-is_empty c = (λ t. absurd cc, λ p. absurd (attributed c.args.tree.now (λ e. search (rules, e)) p))
+
+pub returns-in-None : goal.returns-in-None
+returns-in-None c = (λ t. absurd cc, λ p. absurd (doubled c.args.tree.now.defs (search rules) p.distinct_functions))
+
+pub returns-in-Some : goal.returns-in-Some
+returns-in-Some c =
+    ok_then c.are_known.result c.are_known.ensures
+    (λ b e. told c.args.tree.now c.in-Some.known b (omega arith) (search rules) (search rules) (search rules) (search rules) (search rules)
+    (e ∙ ap (are_known c.in-Some.known) c.as_slice-in-Some.ensures))

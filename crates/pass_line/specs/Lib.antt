@@ -1,0 +1,6 @@
+pub mod CompileCorrect
+pub mod Compiled
+pub mod Keys
+pub mod PlainCode
+pub mod PlainModule
+pub mod PlainText

@@ -1,0 +1,72 @@
+-- Which modules are plain: those without a fault of scope, within the limits, and with atoms that need no quotes.
+use Rattle.std.specs.Prelude.{◌≡◌, List, [], ◌∷◌, ◌++◌, map, Bool, true, false, ◌&&◌, ◌||◌, not, ◌==◌, nat_le, length, IsTrue}
+use Rattle.erl_base.specs.Names.{Name, same_name}
+use Rattle.erl_base.specs.declared.ids.FunKey.{FunKey}
+use Rattle.erl_term.specs.Term.{Term, int, atom}
+use Rattle.core_form.specs.declared.tree.Binder.{Binder}
+use Rattle.core_form.specs.declared.module.FunName.{FunName}
+use Rattle.core_form.specs.Core.{Expr, literal, var, fun, Def, Defs, no_def, and_def, def, Module}
+use Rattle.beam_table.specs.TextRange.{in_signed}
+use Rattle.beam_table.specs.ValidModule.{every, is_key, keys_distinct}
+use Rattle.asm_text.specs.AssemblyText.{is_plain_name}
+
+-- an atom that is written without quotes, of at most 255 characters
+abbrev pub is_plain_atom : Name → Bool
+is_plain_atom name = is_plain_name name && nat_le (length name) 255
+
+-- Definitions.
+
+abbrev pub key_of : Def → FunKey
+key_of (def p f e) = f
+
+abbrev pub keys_of : Defs → List FunKey
+keys_of no_def = []
+keys_of (and_def d ds) = key_of d ∷ keys_of ds
+
+-- each key differs from those before it
+abbrev pub are_new : (before : List FunKey) → List FunKey → Bool
+are_new before [] = true
+are_new before (f ∷ fs) = not (is_key f before) && are_new (before ++ f ∷ []) fs
+
+abbrev pub are_known : (known : List FunKey) → List FunName → Bool
+are_known known fs = every (λ f. is_key f known) (map (λ f. f.key) fs)
+
+abbrev pub is_bound : Name → List Binder → Bool
+is_bound x [] = false
+is_bound x (y ∷ ys) = same_name x y.name || is_bound x ys
+
+abbrev pub are_distinct : List Binder → Bool
+are_distinct [] = true
+are_distinct (x ∷ xs) = not (is_bound x.name xs) && are_distinct xs
+
+-- an integer within 128 signed bits, or an atom
+abbrev pub is_plain_literal : Term → Bool
+is_plain_literal (int z) = in_signed z
+is_plain_literal (atom a) = is_plain_atom a
+is_plain_literal _ = false
+
+-- the body of a fun with these parameters
+abbrev pub is_plain_body : List Binder → Expr → Bool
+is_plain_body xs (var p x) = is_bound x xs
+is_plain_body xs (literal p t) = is_plain_literal t
+is_plain_body xs _ = false
+
+abbrev pub is_plain_fun : FunKey → Expr → Bool
+is_plain_fun f (fun p xs e) =
+    nat_le f.arity 255 && f.arity == length xs && are_distinct xs && is_plain_atom f.name && is_plain_body xs e
+is_plain_fun f _ = false
+
+abbrev pub is_plain_def : Def → Bool
+is_plain_def (def p f e) = is_plain_fun f e
+
+abbrev pub are_plain : Defs → Bool
+are_plain no_def = true
+are_plain (and_def d ds) = is_plain_def d && are_plain ds
+
+pub record IsPlain (m : Module) : Type 0 where
+  pub name : IsTrue (is_plain_atom m.name)
+  pub few_functions : IsTrue (nat_le (length (keys_of m.defs)) 20000)
+  pub functions : IsTrue (are_plain m.defs)
+  pub distinct_functions : IsTrue (keys_distinct (keys_of m.defs))
+  pub known_exports : IsTrue (are_known (keys_of m.defs) m.exports)
+  pub no_attributes : m.attributes ≡ []

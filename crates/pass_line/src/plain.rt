@@ -1,0 +1,243 @@
+// Which modules are plain.
+ghost use Rattle.std.specs.Prelude.{◌≡◌, ◌↔◌, [], map, not, true, false, IfOk, MatchOption, IsTrue};
+ghost use Rattle.erl_base.specs.Names.{same_name};
+ghost use Rattle.erl_term.specs.View as Terms;
+ghost use Rattle.core_form.specs.View.{view, def_view, defs, module_view};
+ghost use Rattle.beam_table.specs.TextRange.{in_signed};
+ghost use Rattle.beam_table.specs.ValidModule.{every};
+ghost use Rattle.asm_text.specs.AssemblyText.{kept_words, is_lower, is_name_char, is_plain_name};
+ghost use Rattle.pass_line.specs.PlainModule.{is_plain_atom, is_bound, are_distinct, is_plain_literal, is_plain_body, is_plain_def, are_plain, keys_of, are_new, are_known, IsPlain};
+
+use crate::keys::{KeySet, characters_of};
+use core_form::{Binder, Def, Expr, ExprForm, FunName, Module};
+use erl_base::{Name, NoMemory};
+use erl_term::Term;
+use std::alloc::Global;
+
+const KEPT_WORDS: [&str; 29] = [
+    "after", "and", "andalso", "band", "begin", "bnot", "bor", "bsl", "bsr", "bxor", "case",
+    "catch", "cond", "div", "else", "end", "fun", "if", "let", "maybe", "not", "of", "or",
+    "orelse", "receive", "rem", "try", "when", "xor",
+];
+
+fn is_lower(c: char) -> bool
+    ensures { result ≡ is_lower c }
+{
+    matches!(c, 'a'..='z')
+}
+
+fn is_name_char(c: char) -> bool
+    ensures { result ≡ is_name_char c }
+{
+    is_lower(c) || matches!(c, 'A'..='Z') || matches!(c, '0'..='9') || c == '_' || c == '@'
+}
+
+fn are_name_chars(name: &[char]) -> bool
+    ensures { result ≡ every is_name_char name.now }
+{
+    for c in name {
+        if !is_name_char(*c) {
+            return false;
+        }
+    }
+    true
+}
+
+fn is_spelled(spelling: &[u8], name: &[char]) -> bool
+    ensures { result ≡ same_name spelling.now name.now }
+{
+    if name.len() != spelling.len() {
+        return false;
+    }
+    for (i, c) in name.iter().enumerate() {
+        if spelling[i] as u32 != *c as u32 {
+            return false;
+        }
+    }
+    true
+}
+
+fn is_none_of(table: &[&str], name: &[char]) -> bool
+    ensures { result ≡ every (λ k. not (same_name k name.now)) (map (λ s. s.now) table.now) }
+{
+    for spelling in table {
+        if is_spelled(spelling.as_bytes(), name) {
+            return false;
+        }
+    }
+    true
+}
+
+fn is_no_kept_word(name: &[char]) -> bool
+    ensures { result ≡ every (λ k. not (same_name k name.now)) kept_words }
+{
+    is_none_of(&KEPT_WORDS, name)
+}
+
+fn is_plain_text(name: &[char]) -> bool
+    ensures { result ≡ is_plain_name name.now }
+{
+    let [first, later @ ..] = name else {
+        return false;
+    };
+    is_lower(*first) && are_name_chars(later) && is_no_kept_word(name)
+}
+
+fn is_plain_atom(alloc: Global, name: &Name) -> Result<bool, NoMemory>
+    ensures { IfOk result (λ plain. plain ≡ is_plain_atom name.now) }
+{
+    let characters = characters_of(alloc, name)?;
+    Ok(is_plain_text(characters.as_slice()) && characters.len() <= 255)
+}
+
+pub fn is_same(name: &Name, other: &Name) -> bool
+    ensures { result ≡ same_name name.now other.now }
+{
+    name.is(other)
+}
+
+fn is_bound(name: &Name, xs: &[Binder]) -> bool
+    ensures { result ≡ is_bound name.now xs.now }
+{
+    for x in xs {
+        if is_same(name, &x.name) {
+            return true;
+        }
+    }
+    false
+}
+
+fn are_distinct(xs: &[Binder]) -> bool
+    ensures { result ≡ are_distinct xs.now }
+{
+    let mut rest = xs;
+    while let [x, later @ ..] = rest {
+        if is_bound(&x.name, later) {
+            return false;
+        }
+        rest = later;
+    }
+    true
+}
+
+// The type holds no integer past 128 signed bits.
+fn is_within(_number: i128) -> bool
+    ensures { result ≡ in_signed _number }
+{
+    true
+}
+
+// A list without items is its tail.
+fn is_plain_literal(alloc: Global, term: &Term) -> Result<bool, NoMemory>
+    ensures { IfOk result (λ plain. plain ≡ is_plain_literal (Terms.view term.now)) }
+{
+    match term {
+        Term::Int(number) => Ok(is_within(*number)),
+        Term::Atom(name) => is_plain_atom(alloc, name),
+        Term::Nil => Ok(false),
+        Term::List(items, tail) => {
+            if items.is_empty() {
+                is_plain_literal(alloc, tail.get())
+            } else {
+                Ok(false)
+            }
+        }
+        Term::Tuple(_) => Ok(false),
+        Term::Map(_) => Ok(false),
+        Term::Bits(_) => Ok(false),
+        Term::Fun(_, _, _, _) => Ok(false),
+        Term::Extern(_, _, _) => Ok(false),
+        Term::Pid(_) => Ok(false),
+        Term::Reference(_) => Ok(false),
+        Term::Port(_) => Ok(false),
+        Term::RawTrace(_) => Ok(false),
+    }
+}
+
+fn is_plain_body(alloc: Global, xs: &[Binder], body: &Expr) -> Result<bool, NoMemory>
+    ensures { IfOk result (λ plain. plain ≡ is_plain_body xs.now (view body.now)) }
+{
+    if let ExprForm::Var(x) = &body.form {
+        return Ok(is_bound(x, xs));
+    }
+    if let ExprForm::Literal(term) = &body.form {
+        return is_plain_literal(alloc, term);
+    }
+    Ok(false)
+}
+
+fn is_plain_def(alloc: Global, def: &Def) -> Result<bool, NoMemory>
+    ensures { IfOk result (λ plain. plain ≡ is_plain_def (def_view def.now)) }
+{
+    let ExprForm::Fun(xs, body) = &def.fun.form else {
+        return Ok(false);
+    };
+    if def.key.arity > 255 || def.key.arity as usize != xs.len() {
+        return Ok(false);
+    }
+    if !are_distinct(xs.as_slice()) {
+        return Ok(false);
+    }
+    if !is_plain_atom(alloc, &def.key.name)? {
+        return Ok(false);
+    }
+    is_plain_body(alloc, xs.as_slice(), body.get())
+}
+
+fn are_plain(alloc: Global, ds: &[Def]) -> Result<bool, NoMemory>
+    ensures { IfOk result (λ plain. plain ≡ are_plain (defs (map def_view ds.now))) }
+{
+    for def in ds {
+        if !is_plain_def(alloc, def)? {
+            return Ok(false);
+        }
+    }
+    Ok(true)
+}
+
+// The keys of the definitions, where each is a new one.
+fn keys(alloc: Global, ds: &[Def]) -> Result<Option<KeySet>, NoMemory>
+    ensures { IfOk result (λ found. MatchOption found (are_new [] (keys_of (defs (map def_view ds.now))) ≡ false)
+        (λ known. (are_new [] (keys_of (defs (map def_view ds.now))) ≡ true) × (known ≡ keys_of (defs (map def_view ds.now))))) }
+{
+    let mut known = KeySet::new(alloc);
+    for def in ds {
+        if !known.insert(alloc, &def.key)? {
+            return Ok(None);
+        }
+    }
+    Ok(Some(known))
+}
+
+fn are_known(alloc: Global, known: &KeySet, exports: &[FunName]) -> Result<bool, NoMemory>
+    ensures { IfOk result (λ found. found ≡ are_known known.now exports.now) }
+{
+    for export in exports {
+        if !known.contains(alloc, &export.key)? {
+            return Ok(false);
+        }
+    }
+    Ok(true)
+}
+
+/// Whether the module is plain.
+pub fn is_plain(alloc: Global, tree: &Module) -> Result<bool, NoMemory>
+    ensures { IfOk result (λ plain. IsTrue plain ↔ IsPlain (module_view tree.now)) }
+{
+    if tree.defs.len() > 20000 {
+        return Ok(false);
+    }
+    if !tree.attributes.is_empty() {
+        return Ok(false);
+    }
+    if !is_plain_atom(alloc, &tree.name)? {
+        return Ok(false);
+    }
+    if !are_plain(alloc, tree.defs.as_slice())? {
+        return Ok(false);
+    }
+    match keys(alloc, tree.defs.as_slice())? {
+        None => Ok(false),
+        Some(known) => are_known(alloc, &known, tree.exports.as_slice()),
+    }
+}
