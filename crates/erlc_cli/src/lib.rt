@@ -1,4 +1,7 @@
 //! The top call: words in, status out.
+//!
+//! Memory may be refused at any time: a private `compiled` that always refuses it meets its contract, and the tests show
+//! that the call succeeds.
 #![tactic(auto)]
 
 mod act;
