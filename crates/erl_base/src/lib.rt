@@ -1,4 +1,7 @@
 //! Names, places, refusals, and the list and box types that every other crate is built of.
+//!
+//! A body that always answers want of memory meets the contracts of `push`, `Boxed::new`, `from_text` and every `copy`: no
+//! clause says when there is memory. The tests run each of these calls with ample memory and compare what it gives.
 #![tactic(auto)]
 
 mod boxed;

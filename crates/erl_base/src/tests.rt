@@ -1,4 +1,4 @@
-use crate::{Boxed, Duplicate, FunKey, List, Name};
+use crate::{Boxed, Duplicate, FunKey, List, Name, VarId};
 use std::cmp::Ordering;
 use std::test::Fail;
 
@@ -34,5 +34,20 @@ fn names_go_by_their_characters(rt: HostRuntime) -> Result<(), Fail> {
     assert_eq!(rt; longer.compare(&key.name), Ordering::Less);
     assert_eq!(rt; key.name.compare(&copy.name), Ordering::Equal);
     assert!(rt; !longer.is(&key.name));
+    Ok(())
+}
+
+#[test]
+fn every_kind_of_value_is_copied(rt: HostRuntime) -> Result<(), Fail> {
+    let alloc = rt.alloc();
+    assert_eq!(rt; Duplicate::copy(&7u8, alloc)?, 7);
+    assert_eq!(rt; Duplicate::copy(&'é', alloc)?, 'é');
+    assert_eq!(rt; Duplicate::copy(&VarId(5), alloc)?, VarId(5));
+    let name = Name::from_text(alloc, "f")?;
+    let key = FunKey { name, arity: 3 };
+    let name: Name = Duplicate::copy(&key.name, alloc)?;
+    let copy: FunKey = Duplicate::copy(&key, alloc)?;
+    assert!(rt; name.is(&key.name));
+    assert!(rt; copy.is(&key));
     Ok(())
 }

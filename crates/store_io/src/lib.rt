@@ -3,7 +3,8 @@
 //! Files are known by their names, and what a store or a sink tells of its contents is what contracts speak of. The
 //! objects in memory tell everything; those of the system tell nothing and only count their faults: they are trusted
 //! to do what the operating system says, so no clause refuses a `RealStore` that makes nothing or a `load` of its that
-//! gives no byte.
+//! gives no byte. A body that always answers want of memory meets the contracts of `reserve` and `add`: the tests call
+//! them with ample memory, and read what was kept.
 #![tactic(auto)]
 
 mod faulty;

@@ -1,6 +1,7 @@
 //! The world of a process: what it is asked, what it replies, and what happens.
 //!
-//! The functions of `laws` have no body: their clauses are laws of the definitions of asking and receiving.
+//! The functions of `laws` have no body: their clauses are laws of the definitions of asking and receiving. A body that
+//! always answers want of memory meets the contract of each `copy`: the test copies one of each kind with ample memory.
 #![tactic(auto)]
 
 mod laws;

@@ -1,4 +1,4 @@
-use crate::{Delay, Happening, How, Reply, Request, Script};
+use crate::{Delay, Happening, How, Message, Reply, Request, Script};
 use erl_base::{List, Name, NoMemory};
 use erl_term::Term;
 use std::alloc::Global;
@@ -41,6 +41,11 @@ fn copies_are_made(rt: HostRuntime) -> Result<(), Fail> {
     assert!(rt; matches!(happening, Happening::Asked(..)));
     let waiting = Request::Wait(Delay::Millis(5)).copy(alloc)?;
     assert!(rt; matches!(waiting, Request::Wait(Delay::Millis(5))));
+    let message = Message {
+        serial: 3,
+        term: Term::Nil,
+    };
+    assert!(rt; message.copy(alloc)?.serial == 3);
     let copied = script(alloc)?.copy(alloc)?;
     assert!(rt; copied.replies.len() == 1);
     assert!(rt; copied.choices.as_slice().len() == 1);
