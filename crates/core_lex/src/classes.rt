@@ -15,6 +15,7 @@ pub fn is_lower(c: char) -> bool
     'a' <= c && c <= 'z'
 }
 
+/// A decimal digit.
 pub fn is_digit(c: char) -> bool
     ensures { result ≡ is_digit c }
 {
@@ -49,6 +50,7 @@ pub fn is_name_char(c: char) -> bool
         || ('À' <= c && c <= 'ÿ') && c != '×' && c != '÷'
 }
 
+/// `+` or `-`.
 pub fn is_sign(c: char) -> bool
     ensures { result ≡ is_sign c }
 {
@@ -81,6 +83,7 @@ pub fn name_len(text: &[char]) -> usize
     text.iter().take_while(|c| is_name_char(**c)).count()
 }
 
+/// How many decimal digits stand at the front.
 pub fn digits_len(text: &[char]) -> usize
     ensures len { result ≡ length (take_while is_digit text.now) }
     ensures fits { result ≤ length text.now }

@@ -24,8 +24,8 @@ fn next_magnitude(value: u128, d: char) -> u128
     }
 }
 
-// A magnitude at or past the ceiling is the ceiling.
-fn magnitude_of(digits: &[char]) -> u128
+/// The number that the digits write. One at or past 2^127 + 1 is given as that.
+pub fn magnitude_of(digits: &[char]) -> u128
     ensures { result ≡ min (value_from 10 0 digits.now) 170141183460469231731687303715884105729 }
 {
     let mut value = 0u128;
@@ -35,7 +35,8 @@ fn magnitude_of(digits: &[char]) -> u128
     value
 }
 
-fn negative(magnitude: u128) -> i128
+/// The integer below zero, or zero, of this magnitude.
+pub fn negative(magnitude: u128) -> i128
     requires { magnitude ≤ 2 ^ 127 }
     ensures { result ≡ neg_ℤ (pos magnitude) }
 {

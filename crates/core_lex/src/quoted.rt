@@ -30,8 +30,8 @@ fn codes_of(alloc: Global, text: &[char]) -> Result<Codes, NoMemory>
     Ok(codes)
 }
 
-// The text up to the closing quote, and how many characters write it, that quote counted.
-fn quoted_text(
+/// The text up to the closing quote, and how many characters write it, that quote counted.
+pub fn quoted_text(
     alloc: Global,
     quote: char,
     rest: &[char],

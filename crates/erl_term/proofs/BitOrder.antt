@@ -15,7 +15,8 @@ use Rattle.erl_term.specs.declared.term.Bits.{Bits}
 use Rattle.erl_term.specs.BitString.{bits_of, byte_bits}
 use Rattle.erl_term.specs.View.{bits_view}
 use Rattle.erl_term.specs.WellFormed.{IsFull, bits_fit}
-use Rattle.erl_term.proofs.Comparing.{then-assoc, both_longer, first_shorter, first_longer, decided, left_true, right_true}
+use Rattle.erl_term.proofs.Comparing.{then-assoc, both_longer, first_shorter, first_longer, decided}
+use Rattle.erl_term.proofs.Forms.{left_true, right_true}
 
 -- the highest of k + 1 bits, and the others
 pub high_and_low : (x q : ℕ) → x % (q * 2) ≡ (x / q) % 2 * q + x % q

@@ -19,24 +19,12 @@ use Rattle.erl_term.specs.Terms.{list_of}
 use Rattle.erl_term.specs.View.{view, pair_view, view_step, pair_step}
 use Rattle.erl_term.specs.WellFormed.{Layout, layout, pair_normal, layout_step, pair_layout_step, pairs_normal, IsNormal}
 use Rattle.erl_term.specs.Comparing.{same_kind, same_kind_of, common, cells, rest, row, pair_row, values_normal, PairsNormal, ValuesNormal}
+use Rattle.erl_term.proofs.Forms.{seen, laid, view-out, layout-out, NoCell, left_true, right_true, both_true, tail_no_cell}
 
 pub then-assoc : (a b c : Ordering) → ordering_then a (ordering_then b c) ≡ ordering_then (ordering_then a b) c
 then-assoc Less b c = refl
 then-assoc Equal b c = refl
 then-assoc Greater b c = refl
-
--- the reading and the layout of a term, by its form
-abbrev pub seen : Term-F Term Pair → Plain.Term
-seen f = view_step (map-Term Term Pair Plain.Term (Plain.Term × Plain.Term) view pair_view f)
-
-abbrev pub laid : Term-F Term Pair → Layout
-laid f = layout_step (map-Term Term Pair Layout Bool layout pair_normal f)
-
-pub view-out : (t : Term) → view t ≡ seen (out-Term t)
-view-out t = fold_out-Term Plain.Term (Plain.Term × Plain.Term) view_step pair_step t
-
-pub layout-out : (t : Term) → layout t ≡ laid (out-Term t)
-layout-out t = fold_out-Term Layout Bool layout_step pair_layout_step t
 
 -- cells against what is no list
 over_other : (x y u : Plain.Term) → ((rank u ≡ 10) → ⊥) → compare (Plain.cons x y) u ≡ nat_cmp 10 (rank u)
@@ -63,9 +51,6 @@ both_longer n m = sym (nat_cmp_is (suc n) (suc m) _ (shifted n m (nat_cmp n m) (
     shifted n m Equal h = ap suc h
     shifted n m Greater h = omega (arith, h)
 
-abbrev NoCell : Plain.Term → Type 0
-NoCell t = (rank t ≡ 10) → ⊥
-
 -- lists whose tails are no cells
 lists_are : (xs ys : List Term) (t u : Plain.Term) → NoCell t → NoCell u
     → compare (list_of (map view xs) t) (list_of (map view ys) u) ≡ cells (row xs) t (row ys) u
@@ -78,38 +63,6 @@ lists_are (x ∷ xs) (y ∷ ys) t u n m =
     ∙ then-assoc (compare (view x) (view y)) (common (row xs) (row ys)) (rest (nat_cmp (count (row xs)) (count (row ys))) t u)
     ∙ ap (λ o. ordering_then (ordering_then (compare (view x) (view y)) (common (row xs) (row ys))) (rest o t u))
     (sym (both_longer (count (row xs)) (count (row ys))))
-
-pub left_true : (a b : Bool) → IsTrue (a && b) → IsTrue a
-left_true true b h = refl
-left_true false b h = cc
-
-pub right_true : (a b : Bool) → IsTrue (a && b) → IsTrue b
-right_true true b h = h
-right_true false b h = cc
-
-pub both_true : (a b : Bool) → IsTrue a → IsTrue b → IsTrue (a && b)
-both_true true b g h = h
-both_true false b g h = cc
-
--- a form in normal form that is no list reads as no cell
-no_cell : (f : Term-F Term Pair) → IsTrue (not (laid f).listed) → NoCell (seen f)
-no_cell (form.List xs t) h = λ e. cc
-no_cell (form.Int z) h = λ e. cc
-no_cell (form.Atom a) h = λ e. cc
-no_cell form.Nil h = λ e. cc
-no_cell (form.Tuple xs) h = λ e. cc
-no_cell (form.Map ps) h = λ e. cc
-no_cell (form.Bits b) h = λ e. cc
-no_cell (form.Fun m s a xs) h = λ e. cc
-no_cell (form.Extern m f a) h = λ e. cc
-no_cell (form.Pid k) h = λ e. cc
-no_cell (form.Reference k) h = λ e. cc
-no_cell (form.Port k) h = λ e. cc
-no_cell (form.RawTrace c) h = λ e. cc
-
-pub tail_no_cell : (t : Term) → IsTrue (not (layout t).listed) → NoCell (view t)
-tail_no_cell t h =
-    subst NoCell (sym (view-out t)) (no_cell (out-Term t) (subst (λ (l : Layout). IsTrue (not l.listed)) (layout-out t) h))
 
 compare-forms : (f g : Term-F Term Pair) → IsTrue (laid f).normal → IsTrue (laid g).normal
     → compare (seen f) (seen g) ≡ ordering_then (nat_cmp (rank (seen f)) (rank (seen g))) (same_kind f g)
@@ -240,14 +193,6 @@ unfolding compare
 values_step ps qs i p q h g f =
     ap (λ o. ordering_then o (compare_values (pair_row (drop (i + 1) ps)) (pair_row (drop (i + 1) qs)))) f
     ∙ sym (ap₂ compare_values (pairs_open ps i p h) (pairs_open qs i q g))
-
-list_form : (a : Term) (xs : List Term) (t : Term) → a ≡ ListTerm xs t → layout a ≡ laid (form.List xs t)
-list_form a xs t e = layout-out a ∙ ap laid (ap out-Term e ∙ outs-List xs t)
-
-pub tail_normal : (a : Term) (xs : List Term) (t u : Term) → a ≡ ListTerm xs t → u ≡ t → IsNormal a → IsNormal u
-tail_normal a xs t u e f n =
-    let h : IsTrue (laid (form.List xs t)).normal = subst (λ (l : Layout). IsTrue l.normal) (list_form a xs t e) n in
-    subst IsNormal (sym f) (right_true _ (layout t).normal (left_true _ (not (layout t).listed) h))
 
 -- n is how the numbers of items stand, and o what is answered for the rest
 pub lists_at : (o n : Ordering) (a b : Term) (xs ys v w : List Term) (t u : Term) → a ≡ ListTerm xs t → b ≡ ListTerm ys u → v ≡ xs → w ≡ ys

@@ -12,8 +12,7 @@ use Rattle.erl_term.specs.Depth.{depths, depth, deepest, deepest_pair}
 use Rattle.erl_term.specs.View.{view}
 use Rattle.erl_term.specs.WellFormed.{Layout, IsNormal}
 use Rattle.erl_term.specs.Comparing.{row, pair_row}
-use Rattle.erl_term.proofs.Comparing.{tail_no_cell, laid, layout-out}
-use Rattle.erl_term.proofs.ListText.{view_as, tail_not_listed}
+use Rattle.erl_term.proofs.Forms.{tail_no_cell, laid, layout-out, view_as, tail_not_listed}
 
 rest_is : (t : Plain.Term) → ((rank t ≡ 10) → ⊥) → (depths t).rest ≡ depth t
 unfolding depths

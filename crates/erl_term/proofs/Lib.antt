@@ -1,10 +1,8 @@
-mod Comparing
-mod BitOrder
-mod OrderCode
-mod OrderLaws
-mod BitNumbers
-mod MapLaws
-mod Names
-mod BitText
-mod ListText
-mod Deep
+pub mod Forms
+pub mod Comparing
+pub mod BitOrder
+pub mod OrderCode
+pub mod OrderLaws
+pub mod BitNumbers
+pub mod MapLaws
+pub mod Deep

@@ -7,8 +7,8 @@ use Rattle.erl_term.specs.Term.{Term, map, Pairs, no_pair, pair}
 use Rattle.erl_term.specs.TermOrder.{compare, same_term, is_equal}
 use Rattle.erl_term.specs.Terms.{value_at, put}
 use Rattle.erl_term.specs.WellFormed.{is_below, comes_first, maps_rise, pairs_rise}
-use Rattle.erl_term.proofs.Comparing.{left_true, right_true, both_true}
 use Rattle.erl_term.proofs.OrderLaws.{total, same, apart}
+use Rattle.erl_term.proofs.Forms.{left_true, right_true, both_true}
 
 same_itself : (k : Term) → same_term k k ≡ true
 unfolding same_term

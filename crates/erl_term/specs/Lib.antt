@@ -6,5 +6,4 @@ pub mod Segments
 pub mod View
 pub mod WellFormed
 pub mod Comparing
-pub mod TermText
 pub mod Depth

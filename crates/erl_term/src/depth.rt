@@ -66,7 +66,7 @@ fn pairs_nest_within(pairs: &[Pair], limit: u32) -> bool
 }
 
 #[cycle(nests)]
-#[tactic(auto, using(crate::proofs::ListText::value_normal))]
+#[tactic(auto, using(crate::proofs::Forms::value_normal))]
 fn pair_nests_within(pair: &Pair, limit: u32) -> bool
     requires { IsTrue (pair_normal pair.now) }
     ensures { IsTrue result ↔ (max (depth (view pair.now.key)) (depth (view pair.now.value)) ≤ limit) }

@@ -44,7 +44,7 @@ impl Term {
 
     /// The place of its kind in the order.
     #[tactic(auto, using(crate::proofs::Comparing::list_rank))]
-    pub(crate) fn rank(&self) -> u8
+    pub fn rank(&self) -> u8
         requires { IsNormal self.now }
         ensures { result ≡ Order.rank (view self.now) }
     {
@@ -79,7 +79,7 @@ impl Class {
 }
 
 #[cycle(order)]
-#[tactic(auto, using(crate::proofs::Comparing::tail_normal))]
+#[tactic(auto, using(crate::proofs::Forms::tail_normal))]
 fn compare_same_kind(a: &Term, b: &Term) -> Ordering
     requires first { IsNormal a.now }
     requires second { IsNormal b.now }

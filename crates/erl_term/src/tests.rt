@@ -1,7 +1,7 @@
 ghost use Rattle.std.specs.Prelude.{◌≡◌, IfOk};
 ghost use Rattle.erl_term.specs.WellFormed.{IsFull, IsNormal};
 
-use crate::{Attribute, Bits, Class, Pair, Term, compare, write_term};
+use crate::{Attribute, Bits, Class, Pair, Term, compare};
 use erl_base::{Boxed, List, Name, NoMemory, SiteId};
 use std::alloc::Global;
 use std::cmp::Ordering;
@@ -112,57 +112,5 @@ fn copies_are_made(rt: HostRuntime) -> Result<(), Fail> {
     let first = attribute(alloc)?;
     let second = first.copy(alloc)?;
     assert!(rt; second.key.is(&first.key));
-    Ok(())
-}
-
-fn is_printed(alloc: Global, term: &Term, expected: &str) -> Result<bool, NoMemory>
-    requires { IsNormal term.now }
-{
-    let text = write_term(alloc, term)?;
-    let mut count = 0;
-    for c in expected.chars() {
-        if text.as_slice().get(count).copied() != Some(c) {
-            return Ok(false);
-        }
-        count += 1;
-    }
-    Ok(count == text.len())
-}
-
-fn atom_is_printed(alloc: Global, name: &str, expected: &str) -> Result<bool, NoMemory> {
-    is_printed(alloc, &atom(alloc, name)?, expected)
-}
-
-#[test]
-fn atoms_are_printed(rt: HostRuntime) -> Result<(), Fail> {
-    let alloc = rt.alloc();
-    assert!(rt; atom_is_printed(alloc, "ok_1@Z", "ok_1@Z")?);
-    assert!(rt; atom_is_printed(alloc, "fun", "'fun'")?);
-    assert!(rt; atom_is_printed(alloc, "", "''")?);
-    assert!(rt; atom_is_printed(alloc, "Ok", "'Ok'")?);
-    assert!(rt; atom_is_printed(alloc, "it's \\", "'it\\'s \\\\'")?);
-    assert!(rt; atom_is_printed(alloc, "\n\x7F", "'\\x{a}\\x{7f}'")?);
-    Ok(())
-}
-
-#[test]
-fn terms_are_printed(rt: HostRuntime) -> Result<(), Fail> {
-    let alloc = rt.alloc();
-    assert!(rt;
-        is_printed(
-            alloc,
-            &Term::Int(i128::MIN),
-            "-170141183460469231731687303715884105728"
-        )?
-    );
-    assert!(rt; is_printed(alloc, &listing(alloc)?, "[1,-2|#Pid<0>]")?);
-    assert!(rt; is_printed(alloc, &mapping(alloc)?, "#{[1,-2|#Pid<0>]=><<5:3>>}")?);
-    assert!(rt;
-        is_printed(
-            alloc,
-            &couple(alloc, Term::Nil, Term::RawTrace(Class::Exit))?,
-            "{[],#Trace<exit>}"
-        )?
-    );
     Ok(())
 }

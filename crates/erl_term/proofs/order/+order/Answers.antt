@@ -5,8 +5,9 @@ use Rattle.erl_term.specs.TermOrder.{compare, rank}
 use Rattle.erl_term.specs.View.{view}
 use Rattle.erl_term.specs.WellFormed.{IsNormal}
 use Rattle.erl_term.specs.declared.term.Term.{the_lemmas}
-use Rattle.erl_term.proofs.Comparing.{tail_normal, lists_at, values_step}
+use Rattle.erl_term.proofs.Comparing.{lists_at, values_step}
 use Rattle.erl_term.proofs.order.+order.Goals as goal
+use Rattle.erl_term.proofs.Forms.{tail_normal}
 
 pub compare_same_kind-compare-requires-in-Equal-cmp :
     goal.compare_same_kind-compare-requires-in-Equal-cmp

@@ -1,7 +1,0 @@
-use Rattle.std.proofs.Common.{◌≡◌, drop}
-use Rattle.std.specs.List.{list_any}
-use Rattle.erl_base.specs.Names.{same_name}
-use Rattle.erl_term.proofs.text.is_among.Given as goal
-
-abbrev pub invariant-loop-word : goal.invariant-loop-word
-invariant-loop-word l = list_any (λ word. same_name word.now l.name) (drop l.word-index l.words) ≡ list_any (λ word. same_name word.now l.name) l.words
