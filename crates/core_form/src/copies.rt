@@ -1,13 +1,18 @@
-// Copies of the tree. Each list has a loop of its own, and what holds no expression is copied outside the cycle, since
-// the proof of a cycle grows with each call in it; for the same reason each form keeps one match over its kinds.
+// Copies of the tree. A form is large, and a proof grows with each large value that a function holds. So the functions
+// that call each other hold boxes and lists alone, and what puts these together stands outside their cycle, in makers.
 ghost use Rattle.std.specs.Prelude.{◌≡◌, IfOk};
 
+use crate::makers::{
+    add, alias, any, apply, binary, bits_like, both, call, case, catch, clause_of, def_of, do_then,
+    fun, fun_name, key_pattern, known, let_in, letrec, list, list_like, literal, map_like, map_of,
+    map_part, new_map, primop, receive, seg_pattern, segment_of, three, try_in, tuple, tuple_like,
+    values, var,
+};
 use crate::tree::{
     Binder, Clause, Def, Expr, ExprForm, KeyPattern, MapPart, Pattern, PatternForm, SegPattern,
     Segment,
 };
-use erl_base::{Boxed, Duplicate, List, Name, NoMemory};
-use erl_term::Term;
+use erl_base::{Boxed, Duplicate, List, NoMemory};
 use std::alloc::Global;
 
 impl Binder {
@@ -28,358 +33,67 @@ impl Duplicate for Binder {
 }
 
 impl Expr {
-    #[cycle(copy)]
     pub fn copy(&self, alloc: Global) -> Result<Expr, NoMemory>
         ensures { IfOk result (λ copy. copy ≡ self.now) }
     {
-        let form = self.form.copy(alloc)?;
-        Ok(Expr {
-            place: self.place,
-            form,
-        })
+        Ok(copy_expr(self, alloc)?.into_inner())
     }
-}
-
-#[cycle(copy)]
-fn copy_boxed(expr: &Expr, alloc: Global) -> Result<Boxed<Expr>, NoMemory>
-    ensures { IfOk result (λ copy. copy ≡ expr.now) }
-{
-    let copy = expr.copy(alloc)?;
-    Boxed::new(alloc, copy)
-}
-
-impl ExprForm {
-    #[cycle(copy)]
-    fn copy(&self, alloc: Global) -> Result<ExprForm, NoMemory>
-        ensures { IfOk result (λ copy. copy ≡ self.now) }
-    {
-        match self {
-            ExprForm::Values(items) => Ok(ExprForm::Values(copy_exprs(items.as_slice(), alloc)?)),
-            ExprForm::Var(name) => Ok(ExprForm::Var(name.copy(alloc)?)),
-            ExprForm::FunName(key) => Ok(ExprForm::FunName(key.copy(alloc)?)),
-            ExprForm::Literal(term) => Ok(ExprForm::Literal(term.copy(alloc)?)),
-            ExprForm::List(items, tail) => {
-                let items = copy_exprs(items.as_slice(), alloc)?;
-                Ok(ExprForm::List(items, copy_boxed(tail.get(), alloc)?))
-            }
-            ExprForm::Tuple(items) => Ok(ExprForm::Tuple(copy_exprs(items.as_slice(), alloc)?)),
-            ExprForm::Map(parts, None) => {
-                Ok(ExprForm::Map(copy_parts(parts.as_slice(), alloc)?, None))
-            }
-            ExprForm::Map(parts, Some(base)) => {
-                let parts = copy_parts(parts.as_slice(), alloc)?;
-                Ok(ExprForm::Map(parts, Some(copy_boxed(base.get(), alloc)?)))
-            }
-            ExprForm::Binary(segments) => {
-                Ok(ExprForm::Binary(copy_segments(segments.as_slice(), alloc)?))
-            }
-            ExprForm::Fun(params, body) => {
-                let params = params.copy(alloc)?;
-                Ok(ExprForm::Fun(params, copy_boxed(body.get(), alloc)?))
-            }
-            ExprForm::Let(vars, value, body) => {
-                let vars = vars.copy(alloc)?;
-                let value = copy_boxed(value.get(), alloc)?;
-                Ok(ExprForm::Let(vars, value, copy_boxed(body.get(), alloc)?))
-            }
-            ExprForm::Letrec(defs, body) => {
-                let defs = copy_defs(defs.as_slice(), alloc)?;
-                Ok(ExprForm::Letrec(defs, copy_boxed(body.get(), alloc)?))
-            }
-            ExprForm::Case(subject, clauses) => {
-                let subject = copy_boxed(subject.get(), alloc)?;
-                Ok(ExprForm::Case(subject, copy_clauses(clauses.as_slice(), alloc)?))
-            }
-            ExprForm::Apply(function, arguments) => {
-                let function = copy_boxed(function.get(), alloc)?;
-                Ok(ExprForm::Apply(function, copy_exprs(arguments.as_slice(), alloc)?))
-            }
-            ExprForm::Call(module, function, arguments) => {
-                let module = copy_boxed(module.get(), alloc)?;
-                let function = copy_boxed(function.get(), alloc)?;
-                Ok(ExprForm::Call(module, function, copy_exprs(arguments.as_slice(), alloc)?))
-            }
-            ExprForm::Primop(name, arguments) => {
-                let name = name.copy(alloc)?;
-                Ok(ExprForm::Primop(name, copy_exprs(arguments.as_slice(), alloc)?))
-            }
-            ExprForm::Do(first, second) => {
-                let first = copy_boxed(first.get(), alloc)?;
-                Ok(ExprForm::Do(first, copy_boxed(second.get(), alloc)?))
-            }
-            ExprForm::Catch(body) => Ok(ExprForm::Catch(copy_boxed(body.get(), alloc)?)),
-            ExprForm::Try(tried, vars, body, caught, handler) => {
-                let vars = vars.copy(alloc)?;
-                let caught = caught.copy(alloc)?;
-                let tried = copy_boxed(tried.get(), alloc)?;
-                let body = copy_boxed(body.get(), alloc)?;
-                Ok(ExprForm::Try(tried, vars, body, caught, copy_boxed(handler.get(), alloc)?))
-            }
-            ExprForm::Receive(clauses, timeout, after) => {
-                let clauses = copy_clauses(clauses.as_slice(), alloc)?;
-                let timeout = copy_boxed(timeout.get(), alloc)?;
-                Ok(ExprForm::Receive(clauses, timeout, copy_boxed(after.get(), alloc)?))
-            }
-        }
-    }
-}
-
-#[cycle(copy)]
-fn copy_exprs(exprs: &[Expr], alloc: Global) -> Result<List<Expr>, NoMemory>
-    ensures { IfOk result (λ copy. copy ≡ exprs.now) }
-{
-    let mut copy = List::new(alloc);
-    for expr in exprs {
-        copy.push(expr.copy(alloc)?)?;
-    }
-    Ok(copy)
 }
 
 impl MapPart {
-    #[cycle(copy)]
     pub fn copy(&self, alloc: Global) -> Result<MapPart, NoMemory>
         ensures { IfOk result (λ copy. copy ≡ self.now) }
     {
-        let key = self.key.copy(alloc)?;
-        let value = self.value.copy(alloc)?;
-        Ok(MapPart {
-            key,
-            value,
-            exact: self.exact,
-        })
+        Ok(copy_part(self, alloc)?.into_inner())
     }
-}
-
-#[cycle(copy)]
-fn copy_parts(parts: &[MapPart], alloc: Global) -> Result<List<MapPart>, NoMemory>
-    ensures { IfOk result (λ copy. copy ≡ parts.now) }
-{
-    let mut copy = List::new(alloc);
-    for part in parts {
-        copy.push(part.copy(alloc)?)?;
-    }
-    Ok(copy)
-}
-
-/// The parts of a segment that hold no expression.
-#[derive(Drop)]
-struct Encoding {
-    unit: Term,
-    kind: Name,
-    flags: Term,
-}
-
-fn copy_encoding(
-    unit: &Term,
-    kind: &Name,
-    flags: &Term,
-    alloc: Global,
-) -> Result<Encoding, NoMemory>
-    ensures { IfOk result (λ copy. (copy.unit ≡ unit.now) × (copy.kind ≡ kind.now) × (copy.flags ≡ flags.now)) }
-{
-    let unit = unit.copy(alloc)?;
-    let kind = kind.copy(alloc)?;
-    let flags = flags.copy(alloc)?;
-    Ok(Encoding { unit, kind, flags })
 }
 
 impl Segment {
-    #[cycle(copy)]
     pub fn copy(&self, alloc: Global) -> Result<Segment, NoMemory>
         ensures { IfOk result (λ copy. copy ≡ self.now) }
     {
-        let Encoding { unit, kind, flags } = copy_encoding(
-            &self.unit,
-            &self.kind,
-            &self.flags,
-            alloc,
-        )?;
-        let value = self.value.copy(alloc)?;
-        let size = self.size.copy(alloc)?;
-        Ok(Segment {
-            place: self.place,
-            value,
-            size,
-            unit,
-            kind,
-            flags,
-        })
+        Ok(copy_segment(self, alloc)?.into_inner())
     }
-}
-
-#[cycle(copy)]
-fn copy_segments(segments: &[Segment], alloc: Global) -> Result<List<Segment>, NoMemory>
-    ensures { IfOk result (λ copy. copy ≡ segments.now) }
-{
-    let mut copy = List::new(alloc);
-    for segment in segments {
-        copy.push(segment.copy(alloc)?)?;
-    }
-    Ok(copy)
 }
 
 impl Def {
-    #[cycle(copy)]
     pub fn copy(&self, alloc: Global) -> Result<Def, NoMemory>
         ensures { IfOk result (λ copy. copy ≡ self.now) }
     {
-        let key = self.key.copy(alloc)?;
-        let fun = self.fun.copy(alloc)?;
-        Ok(Def {
-            key,
-            place: self.place,
-            fun,
-        })
+        Ok(copy_def(self, alloc)?.into_inner())
     }
-}
-
-#[cycle(copy)]
-fn copy_defs(defs: &[Def], alloc: Global) -> Result<List<Def>, NoMemory>
-    ensures { IfOk result (λ copy. copy ≡ defs.now) }
-{
-    let mut copy = List::new(alloc);
-    for def in defs {
-        copy.push(def.copy(alloc)?)?;
-    }
-    Ok(copy)
 }
 
 impl Clause {
-    #[cycle(copy)]
     pub fn copy(&self, alloc: Global) -> Result<Clause, NoMemory>
         ensures { IfOk result (λ copy. copy ≡ self.now) }
     {
-        let patterns = copy_patterns(self.patterns.as_slice(), alloc)?;
-        let guard = self.guard.copy(alloc)?;
-        let body = self.body.copy(alloc)?;
-        Ok(Clause {
-            place: self.place,
-            patterns,
-            guard,
-            body,
-        })
+        Ok(copy_clause(self, alloc)?.into_inner())
     }
-}
-
-#[cycle(copy)]
-fn copy_clauses(clauses: &[Clause], alloc: Global) -> Result<List<Clause>, NoMemory>
-    ensures { IfOk result (λ copy. copy ≡ clauses.now) }
-{
-    let mut copy = List::new(alloc);
-    for clause in clauses {
-        copy.push(clause.copy(alloc)?)?;
-    }
-    Ok(copy)
 }
 
 impl Pattern {
-    #[cycle(copy)]
     pub fn copy(&self, alloc: Global) -> Result<Pattern, NoMemory>
         ensures { IfOk result (λ copy. copy ≡ self.now) }
     {
-        let form = self.form.copy(alloc)?;
-        Ok(Pattern {
-            place: self.place,
-            form,
-        })
+        Ok(copy_pattern(self, alloc)?.into_inner())
     }
-}
-
-impl PatternForm {
-    #[cycle(copy)]
-    fn copy(&self, alloc: Global) -> Result<PatternForm, NoMemory>
-        ensures { IfOk result (λ copy. copy ≡ self.now) }
-    {
-        match self {
-            PatternForm::Var(name) => Ok(PatternForm::Var(name.copy(alloc)?)),
-            PatternForm::Alias(name, pattern) => {
-                let name = name.copy(alloc)?;
-                let pattern = pattern.get().copy(alloc)?;
-                Ok(PatternForm::Alias(name, Boxed::new(alloc, pattern)?))
-            }
-            PatternForm::Literal(term) => Ok(PatternForm::Literal(term.copy(alloc)?)),
-            PatternForm::List(items, tail) => {
-                let items = copy_patterns(items.as_slice(), alloc)?;
-                let tail = tail.get().copy(alloc)?;
-                Ok(PatternForm::List(items, Boxed::new(alloc, tail)?))
-            }
-            PatternForm::Tuple(items) => {
-                Ok(PatternForm::Tuple(copy_patterns(items.as_slice(), alloc)?))
-            }
-            PatternForm::Map(keys) => Ok(PatternForm::Map(copy_keys(keys.as_slice(), alloc)?)),
-            PatternForm::Binary(segments) => {
-                Ok(PatternForm::Binary(copy_seg_patterns(segments.as_slice(), alloc)?))
-            }
-        }
-    }
-}
-
-#[cycle(copy)]
-fn copy_patterns(patterns: &[Pattern], alloc: Global) -> Result<List<Pattern>, NoMemory>
-    ensures { IfOk result (λ copy. copy ≡ patterns.now) }
-{
-    let mut copy = List::new(alloc);
-    for pattern in patterns {
-        copy.push(pattern.copy(alloc)?)?;
-    }
-    Ok(copy)
 }
 
 impl KeyPattern {
-    #[cycle(copy)]
     pub fn copy(&self, alloc: Global) -> Result<KeyPattern, NoMemory>
         ensures { IfOk result (λ copy. copy ≡ self.now) }
     {
-        let key = self.key.copy(alloc)?;
-        let pattern = self.pattern.copy(alloc)?;
-        Ok(KeyPattern { key, pattern })
+        Ok(copy_key(self, alloc)?.into_inner())
     }
-}
-
-#[cycle(copy)]
-fn copy_keys(keys: &[KeyPattern], alloc: Global) -> Result<List<KeyPattern>, NoMemory>
-    ensures { IfOk result (λ copy. copy ≡ keys.now) }
-{
-    let mut copy = List::new(alloc);
-    for key in keys {
-        copy.push(key.copy(alloc)?)?;
-    }
-    Ok(copy)
 }
 
 impl SegPattern {
-    #[cycle(copy)]
     pub fn copy(&self, alloc: Global) -> Result<SegPattern, NoMemory>
         ensures { IfOk result (λ copy. copy ≡ self.now) }
     {
-        let Encoding { unit, kind, flags } = copy_encoding(
-            &self.unit,
-            &self.kind,
-            &self.flags,
-            alloc,
-        )?;
-        let value = self.value.copy(alloc)?;
-        let size = self.size.copy(alloc)?;
-        Ok(SegPattern {
-            place: self.place,
-            value,
-            size,
-            unit,
-            kind,
-            flags,
-        })
+        Ok(copy_seg_pattern(self, alloc)?.into_inner())
     }
-}
-
-#[cycle(copy)]
-fn copy_seg_patterns(segments: &[SegPattern], alloc: Global) -> Result<List<SegPattern>, NoMemory>
-    ensures { IfOk result (λ copy. copy ≡ segments.now) }
-{
-    let mut copy = List::new(alloc);
-    for segment in segments {
-        copy.push(segment.copy(alloc)?)?;
-    }
-    Ok(copy)
 }
 
 impl Duplicate for Expr {
@@ -404,4 +118,291 @@ impl Duplicate for Def {
     fn copy(&self, alloc: Global) -> Result<Def, NoMemory> {
         Def::copy(self, alloc)
     }
+}
+
+#[cycle(copy)]
+fn copy_expr(expr: &Expr, alloc: Global) -> Result<Boxed<Expr>, NoMemory>
+    ensures { IfOk result (λ copy. copy ≡ expr.now) }
+{
+    let place = expr.place;
+    match &expr.form {
+        ExprForm::Values(items) => values(alloc, place, copy_exprs(items, alloc)),
+        ExprForm::Var(name) => var(alloc, place, name),
+        ExprForm::FunName(key) => fun_name(alloc, place, key),
+        ExprForm::Literal(term) => literal(alloc, place, term),
+        ExprForm::List(items, tail) => {
+            let items = copy_exprs(items, alloc);
+            list(alloc, place, both(items, copy_boxed(tail, alloc)))
+        }
+        ExprForm::Tuple(items) => tuple(alloc, place, copy_exprs(items, alloc)),
+        ExprForm::Map(parts, None) => new_map(alloc, place, copy_parts(parts, alloc)),
+        ExprForm::Map(parts, Some(base)) => {
+            let parts = copy_parts(parts, alloc);
+            map_of(alloc, place, both(parts, copy_boxed(base, alloc)))
+        }
+        ExprForm::Binary(segments) => { binary(alloc, place, copy_segments(segments, alloc)) }
+        ExprForm::Fun(params, body) => {
+            fun(
+                alloc,
+                place,
+                both(params.copy(alloc), copy_boxed(body, alloc)),
+            )
+        }
+        ExprForm::Let(vars, value, body) => {
+            let value = copy_boxed(value, alloc);
+            let body = copy_boxed(body, alloc);
+            let_in(alloc, place, three(vars.copy(alloc), value, body))
+        }
+        ExprForm::Letrec(defs, body) => {
+            let defs = copy_defs(defs, alloc);
+            letrec(alloc, place, both(defs, copy_boxed(body, alloc)))
+        }
+        ExprForm::Case(subject, clauses) => {
+            let subject = copy_boxed(subject, alloc);
+            case(alloc, place, both(subject, copy_clauses(clauses, alloc)))
+        }
+        ExprForm::Apply(function, arguments) => {
+            let function = copy_boxed(function, alloc);
+            apply(alloc, place, both(function, copy_exprs(arguments, alloc)))
+        }
+        ExprForm::Call(module, function, arguments) => {
+            let module = copy_boxed(module, alloc);
+            let function = copy_boxed(function, alloc);
+            call(
+                alloc,
+                place,
+                three(module, function, copy_exprs(arguments, alloc)),
+            )
+        }
+        ExprForm::Primop(name, arguments) => {
+            let arguments = copy_exprs(arguments, alloc);
+            primop(alloc, place, both(name.copy(alloc), arguments))
+        }
+        ExprForm::Do(first, second) => {
+            let first = copy_boxed(first, alloc);
+            do_then(alloc, place, both(first, copy_boxed(second, alloc)))
+        }
+        ExprForm::Catch(body) => catch(alloc, place, copy_boxed(body, alloc)),
+        ExprForm::Try(tried, vars, body, caught, handler) => {
+            let tried = copy_boxed(tried, alloc);
+            let body = copy_boxed(body, alloc);
+            let handler = copy_boxed(handler, alloc);
+            let vars = both(vars.copy(alloc), caught.copy(alloc));
+            try_in(alloc, place, vars, three(tried, body, handler))
+        }
+        ExprForm::Receive(clauses, timeout, after) => {
+            let clauses = copy_clauses(clauses, alloc);
+            let timeout = copy_boxed(timeout, alloc);
+            receive(
+                alloc,
+                place,
+                three(clauses, timeout, copy_boxed(after, alloc)),
+            )
+        }
+    }
+}
+
+/// A box is passed on as it is: the proof of a function grows with what stands behind its references.
+#[cycle(copy)]
+pub(crate) fn copy_boxed(expr: &Boxed<Expr>, alloc: Global) -> Result<Boxed<Expr>, NoMemory>
+    ensures { IfOk result (λ copy. copy ≡ expr.now) }
+{
+    copy_expr(expr.get(), alloc)
+}
+
+#[cycle(copy)]
+pub(crate) fn copy_boxed_pattern(
+    pattern: &Boxed<Pattern>,
+    alloc: Global,
+) -> Result<Boxed<Pattern>, NoMemory>
+    ensures { IfOk result (λ copy. copy ≡ pattern.now) }
+{
+    copy_pattern(pattern.get(), alloc)
+}
+
+#[cycle(copy)]
+fn copy_part(part: &MapPart, alloc: Global) -> Result<Boxed<MapPart>, NoMemory>
+    ensures { IfOk result (λ copy. copy ≡ part.now) }
+{
+    let parts = both(copy_expr(&part.key, alloc), copy_expr(&part.value, alloc));
+    map_part(alloc, parts, part.exact)
+}
+
+#[cycle(copy)]
+fn copy_segment(segment: &Segment, alloc: Global) -> Result<Boxed<Segment>, NoMemory>
+    ensures { IfOk result (λ copy. copy ≡ segment.now) }
+{
+    let encoding = three(
+        segment.unit.copy(alloc),
+        segment.kind.copy(alloc),
+        segment.flags.copy(alloc),
+    );
+    let parts = both(
+        copy_expr(&segment.value, alloc),
+        copy_expr(&segment.size, alloc),
+    );
+    segment_of(alloc, segment.place, parts, encoding)
+}
+
+#[cycle(copy)]
+fn copy_def(def: &Def, alloc: Global) -> Result<Boxed<Def>, NoMemory>
+    ensures { IfOk result (λ copy. copy ≡ def.now) }
+{
+    let parts = both(def.key.copy(alloc), copy_expr(&def.fun, alloc));
+    def_of(alloc, def.place, parts)
+}
+
+#[cycle(copy)]
+fn copy_clause(clause: &Clause, alloc: Global) -> Result<Boxed<Clause>, NoMemory>
+    ensures { IfOk result (λ copy. copy ≡ clause.now) }
+{
+    let patterns = copy_patterns(&clause.patterns, alloc);
+    let guard = copy_expr(&clause.guard, alloc);
+    let body = copy_expr(&clause.body, alloc);
+    clause_of(alloc, clause.place, three(patterns, guard, body))
+}
+
+#[cycle(copy)]
+fn copy_pattern(pattern: &Pattern, alloc: Global) -> Result<Boxed<Pattern>, NoMemory>
+    ensures { IfOk result (λ copy. copy ≡ pattern.now) }
+{
+    let place = pattern.place;
+    match &pattern.form {
+        PatternForm::Var(name) => any(alloc, place, name),
+        PatternForm::Alias(name, inner) => {
+            alias(
+                alloc,
+                place,
+                both(name.copy(alloc), copy_boxed_pattern(inner, alloc)),
+            )
+        }
+        PatternForm::Literal(term) => known(alloc, place, term),
+        PatternForm::List(items, tail) => {
+            let items = copy_patterns(items, alloc);
+            list_like(alloc, place, both(items, copy_boxed_pattern(tail, alloc)))
+        }
+        PatternForm::Tuple(items) => { tuple_like(alloc, place, copy_patterns(items, alloc)) }
+        PatternForm::Map(keys) => map_like(alloc, place, copy_keys(keys, alloc)),
+        PatternForm::Binary(segments) => {
+            bits_like(alloc, place, copy_seg_patterns(segments, alloc))
+        }
+    }
+}
+
+#[cycle(copy)]
+fn copy_key(key: &KeyPattern, alloc: Global) -> Result<Boxed<KeyPattern>, NoMemory>
+    ensures { IfOk result (λ copy. copy ≡ key.now) }
+{
+    let parts = both(
+        copy_expr(&key.key, alloc),
+        copy_pattern(&key.pattern, alloc),
+    );
+    key_pattern(alloc, parts)
+}
+
+#[cycle(copy)]
+fn copy_seg_pattern(segment: &SegPattern, alloc: Global) -> Result<Boxed<SegPattern>, NoMemory>
+    ensures { IfOk result (λ copy. copy ≡ segment.now) }
+{
+    let encoding = three(
+        segment.unit.copy(alloc),
+        segment.kind.copy(alloc),
+        segment.flags.copy(alloc),
+    );
+    let parts = both(
+        copy_pattern(&segment.value, alloc),
+        copy_expr(&segment.size, alloc),
+    );
+    seg_pattern(alloc, segment.place, parts, encoding)
+}
+
+#[cycle(copy)]
+fn copy_exprs(exprs: &List<Expr>, alloc: Global) -> Result<List<Expr>, NoMemory>
+    ensures { IfOk result (λ copy. copy ≡ exprs.now) }
+{
+    let mut copy = List::new(alloc);
+    for expr in exprs.as_slice() {
+        add(&mut copy, copy_expr(expr, alloc))?;
+    }
+    Ok(copy)
+}
+
+#[cycle(copy)]
+fn copy_parts(parts: &List<MapPart>, alloc: Global) -> Result<List<MapPart>, NoMemory>
+    ensures { IfOk result (λ copy. copy ≡ parts.now) }
+{
+    let mut copy = List::new(alloc);
+    for part in parts.as_slice() {
+        add(&mut copy, copy_part(part, alloc))?;
+    }
+    Ok(copy)
+}
+
+#[cycle(copy)]
+fn copy_segments(segments: &List<Segment>, alloc: Global) -> Result<List<Segment>, NoMemory>
+    ensures { IfOk result (λ copy. copy ≡ segments.now) }
+{
+    let mut copy = List::new(alloc);
+    for segment in segments.as_slice() {
+        add(&mut copy, copy_segment(segment, alloc))?;
+    }
+    Ok(copy)
+}
+
+#[cycle(copy)]
+fn copy_defs(defs: &List<Def>, alloc: Global) -> Result<List<Def>, NoMemory>
+    ensures { IfOk result (λ copy. copy ≡ defs.now) }
+{
+    let mut copy = List::new(alloc);
+    for def in defs.as_slice() {
+        add(&mut copy, copy_def(def, alloc))?;
+    }
+    Ok(copy)
+}
+
+#[cycle(copy)]
+fn copy_clauses(clauses: &List<Clause>, alloc: Global) -> Result<List<Clause>, NoMemory>
+    ensures { IfOk result (λ copy. copy ≡ clauses.now) }
+{
+    let mut copy = List::new(alloc);
+    for clause in clauses.as_slice() {
+        add(&mut copy, copy_clause(clause, alloc))?;
+    }
+    Ok(copy)
+}
+
+#[cycle(copy)]
+fn copy_patterns(patterns: &List<Pattern>, alloc: Global) -> Result<List<Pattern>, NoMemory>
+    ensures { IfOk result (λ copy. copy ≡ patterns.now) }
+{
+    let mut copy = List::new(alloc);
+    for pattern in patterns.as_slice() {
+        add(&mut copy, copy_pattern(pattern, alloc))?;
+    }
+    Ok(copy)
+}
+
+#[cycle(copy)]
+fn copy_keys(keys: &List<KeyPattern>, alloc: Global) -> Result<List<KeyPattern>, NoMemory>
+    ensures { IfOk result (λ copy. copy ≡ keys.now) }
+{
+    let mut copy = List::new(alloc);
+    for key in keys.as_slice() {
+        add(&mut copy, copy_key(key, alloc))?;
+    }
+    Ok(copy)
+}
+
+#[cycle(copy)]
+fn copy_seg_patterns(
+    segments: &List<SegPattern>,
+    alloc: Global,
+) -> Result<List<SegPattern>, NoMemory>
+    ensures { IfOk result (λ copy. copy ≡ segments.now) }
+{
+    let mut copy = List::new(alloc);
+    for segment in segments.as_slice() {
+        add(&mut copy, copy_seg_pattern(segment, alloc))?;
+    }
+    Ok(copy)
 }
