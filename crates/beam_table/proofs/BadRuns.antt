@@ -4,7 +4,7 @@ use Rattle.erl_term.specs.Term as T
 use Rattle.erl_term.specs.Term.{Term}
 use Rattle.bif_table.specs.Builtins as L
 use Rattle.beam_table.proofs.Examples.{I, tup, x0, x1, x2, x3, y0, r, i, ext, erl, BadAfter}
-use Rattle.beam_table.specs.Code.{label, gc_bif, move, swap, init_yregs, allocate, deallocate, trim, test_heap, return, put_list, make_fun3, put_map_assoc, get_hd, get_tuple_element, test_arity, has_map_fields, jump, call, call_only, call_ext, send, try, catch, try_end, try_case, catch_end, loop_rec, remove_message, loop_rec_end, timeout, recv_marker_bind, recv_marker_use, bs_start_match4, bs_get_integer2, bs_get_tail}
+use Rattle.beam_table.specs.Code.{label, gc_bif, move, swap, init_yregs, allocate, deallocate, trim, test_heap, return, put_list, make_fun3, put_map_assoc, get_hd, get_tuple_element, test_arity, has_map_fields, jump, call, call_only, call_ext, call_ext_only, send, build_stacktrace, try, catch, try_end, try_case, catch_end, loop_rec, remove_message, loop_rec_end, wait, wait_timeout, timeout, recv_marker_bind, recv_marker_use, bs_start_match4, bs_get_integer2, bs_get_tail}
 use Rattle.beam_table.specs.MachineRun.{asm_run}
 
 reads : BadAfter 0 (move (r x3) x0 ∷ return ∷ []) [] []
@@ -105,3 +105,30 @@ jumped : BadAfter 1 (gc_bif L.Div (Some 3) 1 (i 1 ∷ r x0 ∷ []) x0 ∷ label 
     × BadAfter 2 (bs_start_match4 None 2 (r x0) x0 ∷ bs_get_integer2 3 1 x0 (i 8) 1 (record { signed = false; little = false }) x2 ∷ label 3 ∷ move (r x1) x0 ∷ return ∷ []) (T.bits [] ∷ I 5 ∷ []) []
 unfolding asm_run
 jumped = ((refl, refl), (refl, refl))
+
+-- leaving: an argument that was never set, one that holds no term, and a return without a value
+leaving : BadAfter 0 (call_ext_only 1 (ext (codes "m") (codes "f") 1) ∷ []) [] []
+    × BadAfter 1 (allocate 0 0 ∷ call 1 2 ∷ []) [] []
+    × BadAfter 1 (bs_start_match4 None 1 (r x0) x0 ∷ call_ext_only 1 (ext (codes "m") (codes "f") 1) ∷ []) (T.bits [] ∷ []) []
+    × BadAfter 0 (return ∷ []) [] []
+unfolding asm_run
+leaving = ((refl, refl), (refl, refl), (refl, refl), (refl, refl))
+
+-- a label that is not there
+nowhere : BadAfter 0 (jump 9 ∷ []) [] []
+    × BadAfter 0 (gc_bif L.Div (Some 9) 1 (i 1 ∷ r x0 ∷ []) x0 ∷ return ∷ []) (I 0 ∷ []) []
+unfolding asm_run
+nowhere = ((refl, refl), (refl, refl))
+
+-- with a message looked at, also these are bad
+window_too : BadAfter 1 (loop_rec 3 0 ∷ allocate 0 1 ∷ label 3 ∷ []) [] (I 1 ∷ [])
+    × BadAfter 2 (allocate 1 0 ∷ loop_rec 3 0 ∷ trim 1 0 ∷ label 3 ∷ []) [] (I 1 ∷ [])
+    × BadAfter 1 (loop_rec 3 0 ∷ call_ext_only 1 (ext (codes "m") (codes "f") 1) ∷ label 3 ∷ []) [] (I 1 ∷ [])
+    × BadAfter 2 (allocate 0 0 ∷ loop_rec 3 0 ∷ build_stacktrace ∷ label 3 ∷ []) [] (I 1 ∷ [])
+    × BadAfter 1 (loop_rec 3 0 ∷ wait 3 ∷ label 3 ∷ []) [] (I 1 ∷ [])
+    × BadAfter 1 (loop_rec 3 0 ∷ wait_timeout 3 (i 0) ∷ label 3 ∷ []) [] (I 1 ∷ [])
+    × BadAfter 2 (allocate 1 0 ∷ loop_rec 3 0 ∷ try 0 3 ∷ label 3 ∷ []) [] (I 1 ∷ [])
+    × BadAfter 2 (allocate 1 0 ∷ loop_rec 3 0 ∷ catch 0 3 ∷ label 3 ∷ []) [] (I 1 ∷ [])
+    × BadAfter 2 (allocate 1 0 ∷ loop_rec 3 0 ∷ init_yregs (0 ∷ []) ∷ label 3 ∷ []) [] (I 1 ∷ [])
+unfolding asm_run
+window_too = ((refl, refl), (refl, refl), (refl, refl), (refl, refl), (refl, refl), (refl, refl), (refl, refl), (refl, refl), (refl, refl))

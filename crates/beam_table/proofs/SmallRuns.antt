@@ -9,7 +9,7 @@ use Rattle.world_model.specs.World.{asked, taken}
 use Rattle.step_machine.specs.Steps.{over, is_bad, subs}
 use Rattle.beam_table.specs.Code
 use Rattle.beam_table.proofs.Examples.{A, I, tup, x0, x1, x2, y0, y1, r, a, i, ext, erl, plain, script, reply, ok, back, runs, end_of, with_replies, bytes}
-use Rattle.beam_table.specs.Code.{Insn, recv_marker_clear, label, move, swap, init_yregs, allocate, allocate_heap, deallocate, trim, test_heap, return, put_list, put_tuple2, make_fun3, put_map_assoc, put_map_exact, get_list, get_hd, get_tl, get_tuple_element, get_map_elements, has_map_fields, jump, test, is_boolean, is_binary, compares, is_function2, is_ge, test_arity, is_tagged_tuple, select_val, select_tuple_arity, bif, gc_bif, call, call_only, call_ext, call_ext_only, call_ext_last, call_fun, apply, apply_last, send, build_stacktrace, raise, badmatch, case_end, if_end, bs_start_match4, bs_get_integer2, bs_get_binary2, bs_skip_bits2, bs_test_tail2, bs_test_unit, bs_get_tail, bs_get_position, bs_set_position, bs_create_bin}
+use Rattle.beam_table.specs.Code.{Insn, recv_marker_clear, label, move, swap, init_yregs, allocate, allocate_heap, deallocate, trim, test_heap, return, put_list, put_tuple2, make_fun3, put_map_assoc, put_map_exact, get_list, get_hd, get_tl, get_tuple_element, get_map_elements, has_map_fields, jump, test, is_boolean, is_binary, compares, is_function2, is_ge, test_arity, is_tagged_tuple, select_val, select_tuple_arity, bif, gc_bif, call, call_only, call_ext, call_ext_only, call_ext_last, call_fun, apply, apply_last, send, build_stacktrace, raise, badmatch, case_end, try_case_end, if_end, bs_start_match4, bs_get_integer2, bs_get_binary2, bs_skip_bits2, bs_test_tail2, bs_test_unit, bs_get_tail, bs_get_position, bs_set_position, bs_create_bin}
 use Rattle.beam_table.specs.MachineRun.{asm_run}
 
 -- moves, frames, room
@@ -93,6 +93,12 @@ labelled : (end_of (gc_bif L.Div (Some 3) 1 (i 1 ∷ r x0 ∷ []) x0 ∷ return 
 unfolding asm_run
 labelled = (refl, refl)
 
+-- one that does not collect keeps the other registers
+not_collected : (end_of (bif L.Element None (i 1 ∷ r x0 ∷ []) x0 ∷ test_heap 3 2 ∷ put_tuple2 x0 (r x0 ∷ r x1 ∷ []) ∷ return ∷ []) (tup (I 5 ∷ []) ∷ I 6 ∷ []) ≡ over (gives (tup (I 5 ∷ I 6 ∷ []))))
+    × (end_of (bif L.Element (Some 3) (i 2 ∷ r x0 ∷ []) x0 ∷ return ∷ label 3 ∷ move (r x1) x0 ∷ return ∷ []) (tup (I 5 ∷ []) ∷ I 6 ∷ []) ≡ over (gives (I 6)))
+unfolding asm_run
+not_collected = (refl, refl)
+
 -- calls of other modules
 
 always_raises : end_of (move (a (codes "x")) x0 ∷ call_ext 1 (erl (codes "exit") 1) ∷ []) [] ≡ over (raises T.exit (A (codes "x")))
@@ -139,8 +145,9 @@ fun_calls = (refl, refl, refl, refl)
 again : (end_of (raise (r x0) (a (codes "x")) ∷ []) (I 1 ∷ []) ≡ over (raises T.error (A (codes "badarg"))))
     × (end_of (raise (r x0) (a (codes "x")) ∷ []) (T.raw_trace T.exit ∷ []) ≡ over (raises T.exit (A (codes "x"))))
     × (end_of (badmatch (r x0) ∷ []) (I 1 ∷ []) ≡ over (raises T.error (tup (A (codes "badmatch") ∷ I 1 ∷ []))))
+    × (end_of (try_case_end (r x0) ∷ []) (I 1 ∷ []) ≡ over (raises T.error (tup (A (codes "try_clause") ∷ I 1 ∷ []))))
 unfolding asm_run
-again = (refl, refl, refl)
+again = (refl, refl, refl, refl)
 
 -- bit strings
 

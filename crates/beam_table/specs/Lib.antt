@@ -16,5 +16,6 @@ pub mod OperandBounds
 pub mod InstructionText
 pub mod ValidModule
 pub mod View
+pub mod Families
 pub mod Inbox
 pub mod StepFacts

@@ -7,7 +7,7 @@ use erl_base::{LabelId, List, Name, SiteId};
 
 /// An instruction with its operands in the order of its text. A label that may be missing (`{f,0}`, or `no_fail`) is
 /// an option. `func_info` is none: a function's head has it.
-#[derive(Debug, Drop)]
+#[derive(Drop)]
 pub enum Insn {
     Label(LabelId),
     Move(Source, Reg),

@@ -1,9 +1,11 @@
 //! The instructions of BEAM assembly, modules of them, and the machine that runs them.
 //! The functions of `laws` have no code: the contract of each is a law of the machine.
-//! Not done: copies of instructions and of modules, whose proof takes more than a minute.
+//! A body of a call that copies may always answer NoMemory: the tests run each with ample memory.
 #![tactic(auto)]
 
 mod asm;
+mod copies;
+mod family;
 mod insn;
 mod laws;
 mod operand;
@@ -11,6 +13,7 @@ mod operand;
 mod tests;
 
 pub use asm::{AsmFun, AsmFuns, AsmModule, FunKeys};
+pub use family::Family;
 pub use insn::{Insn, Insns};
 pub use laws::{
     local_call_adds_one_entry, only_events_change_the_mailbox, raise_unwinds_the_stack,

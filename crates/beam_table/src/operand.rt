@@ -169,23 +169,22 @@ impl Duplicate for Source {
 
 impl Duplicate for Segment {
     fn copy(&self, alloc: Global) -> Result<Segment, NoMemory> {
+        let (value, size) = copy_both(&self.value, &self.size, alloc)?;
         Ok(Segment {
             kind: self.kind,
             number: self.number,
             unit: self.unit,
             flags: self.flags,
-            value: self.value.copy(alloc)?,
-            size: self.size.copy(alloc)?,
+            value,
+            size,
         })
     }
 }
 
 impl Duplicate for PutPair {
     fn copy(&self, alloc: Global) -> Result<PutPair, NoMemory> {
-        Ok(PutPair {
-            key: self.key.copy(alloc)?,
-            value: self.value.copy(alloc)?,
-        })
+        let (key, value) = copy_both(&self.key, &self.value, alloc)?;
+        Ok(PutPair { key, value })
     }
 }
 
@@ -211,4 +210,18 @@ impl Duplicate for SizeChoice {
     fn copy(&self, _alloc: Global) -> Result<SizeChoice, NoMemory> {
         Ok(*self)
     }
+}
+
+// Copies of two operands.
+pub(crate) fn copy_both<A: Duplicate + Drop, B: Duplicate + Drop>(
+    one: &A,
+    other: &B,
+    alloc: Global,
+) -> Result<(A, B), NoMemory>
+    ensures one { IfOk result (λ both. both.0 ≡ one.now) }
+    ensures other { IfOk result (λ both. both.1 ≡ other.now) }
+{
+    let one = one.copy(alloc)?;
+    let other = other.copy(alloc)?;
+    Ok((one, other))
 }

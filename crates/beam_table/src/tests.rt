@@ -1,5 +1,8 @@
-use crate::{Extern, Flags, GetPair, PutPair, Reg, Segment, SegmentKind, Source, ValueChoice};
-use erl_base::{Duplicate, LabelId, Name, NoMemory};
+use crate::{
+    AsmFun, AsmFuns, AsmModule, Extern, Flags, GetPair, Insn, Insns, PutPair, Reg, Segment,
+    SegmentKind, Source, ValueChoice,
+};
+use erl_base::{Duplicate, FunKey, LabelId, List, Name, NoMemory};
 use erl_term::Term;
 use std::alloc::Global;
 use std::test::Fail;
@@ -60,5 +63,65 @@ fn operands_are_copied(rt: HostRuntime) -> Result<(), Fail> {
     assert!(rt; copied_target(alloc)? == Reg::Y(3));
     assert!(rt; copied_label(alloc)? == LabelId(9));
     assert!(rt; copied_unit(alloc)? == 8);
+    Ok(())
+}
+
+fn code(alloc: Global) -> Result<Insns, NoMemory> {
+    let mut code: Insns = List::new(alloc);
+    code.push(Insn::PutList(Source::Integer(7), Source::Nil, Reg::X(1)))?;
+    Ok(code)
+}
+
+fn module(alloc: Global) -> Result<AsmModule, NoMemory> {
+    let name = Name::from_text(alloc, "f")?;
+    let code = code(alloc)?;
+    let mut funs = List::new(alloc);
+    funs.push(AsmFun {
+        key: FunKey { name, arity: 3 },
+        info: LabelId(1),
+        entry: LabelId(2),
+        code,
+    })?;
+    Ok(AsmModule {
+        name: Name::from_text(alloc, "m")?,
+        exports: List::new(alloc),
+        attributes: List::new(alloc),
+        funs,
+    })
+}
+
+fn copied_insn(alloc: Global) -> Result<Insn, NoMemory> {
+    Insn::Badmatch(Source::Integer(8)).copy(alloc)
+}
+
+fn copied_entry(alloc: Global, funs: &AsmFuns) -> Result<Option<LabelId>, NoMemory> {
+    match funs.as_slice().first() {
+        None => Ok(None),
+        Some(function) => Ok(Some(function.copy(alloc)?.entry)),
+    }
+}
+
+fn copied_module(alloc: Global) -> Result<AsmModule, NoMemory> {
+    module(alloc)?.copy(alloc)
+}
+
+fn is_own_code(code: &Insns) -> bool {
+    match code.as_slice().first() {
+        Some(Insn::PutList(Source::Integer(7), Source::Nil, Reg::X(1))) => true,
+        _ => false,
+    }
+}
+
+#[test]
+fn modules_are_copied(rt: HostRuntime) -> Result<(), Fail> {
+    let alloc = rt.alloc();
+    let copy = copied_module(alloc)?;
+    let funs = copy.funs.as_slice();
+    assert!(rt; copy.name.as_str() == "m" && funs.len() == 1);
+    assert!(rt; funs[0].key.name.as_str() == "f" && funs[0].key.arity == 3);
+    assert!(rt; funs[0].info == LabelId(1) && funs[0].entry == LabelId(2));
+    assert!(rt; funs[0].code.len() == 1 && is_own_code(&funs[0].code));
+    assert!(rt; copied_entry(alloc, &copy.funs)? == Some(LabelId(2)));
+    assert!(rt; matches!(copied_insn(alloc)?, Insn::Badmatch(Source::Integer(8))));
     Ok(())
 }
