@@ -9,9 +9,12 @@ use Rattle.world_model.specs.World as W
 use Rattle.world_model.specs.World.{Reply}
 use Rattle.world_model.specs.Run.{State, gives}
 use Rattle.step_machine.specs.Bodies.{Here}
-use Rattle.ssa_form.specs.Ssa.{Arg, var, lit, bif, tuple, call_local, call_remote, try_start, try_end, landing, catch_end, peek, take_message, skip_message, wait, reset, Set, set, Last, br, succeeded, switch, ret, Block, block, Body}
-use Rattle.ssa_form.specs.Storage.{Around, Ended}
+use Rattle.ssa_form.specs.Ssa.{Arg, var, lit, FrameAction, bif, tuple, call_local, call_remote, try_start, try_end, landing, catch_end, peek, take_message, skip_message, wait, reset, Set, set, Last, br, succeeded, switch, ret, Block, block, Body}
+use Rattle.ssa_form.specs.Storage.{Around, Ended, done}
 use Rattle.ssa_form.specs.SsaRun.{all_terms, ssa_run}
+use Rattle.ssa_form.specs.Spots.{Spots}
+use Rattle.ssa_form.specs.PlacedRun.{placed_run}
+use Rattle.ssa_form.specs.FramedRun.{framed_run}
 
 abbrev pub A : List ℕ → Arg
 A a = lit (T.atom a)
@@ -46,6 +49,26 @@ around0 = record { arities = 1 ∷ []; reached = []; choices = [] }
 
 abbrev pub runs : Body → Values → List Reply → Ended
 runs b vs rs = ssa_run around0 here0 b 20 (all_terms vs) [] (start_with rs)
+
+abbrev pub placed : Body → Spots → Values → List Reply → Ended
+placed b ps vs rs = placed_run around0 here0 (record { body = b; spots = ps }) 20 (all_terms vs) [] (start_with rs)
+
+abbrev pub framed : Body → Spots → List (ℕ × ℕ) → Values → List Reply → Ended
+framed b ps sizes vs rs = framed_run around0 here0 (record { body = b; spots = ps; sizes = sizes }) 20 (all_terms vs) [] (start_with rs)
+
+abbrev pub outcome : Ended → Ended
+outcome (done s r) = done (start_with []) r
+outcome e = e
+
+abbrev pub gives_term : Term → Ended
+gives_term t = done (start_with []) (gives t)
+
+-- a set, and a last, after frame actions
+abbrev pub acting : List FrameAction → Set → Set
+acting as' x = record x { before = as' }
+
+abbrev pub ending : List Set → List FrameAction → Last → Option Block
+ending xs as' l = Some (record { phis = []; chain = xs; before = as'; last = l })
 
 -- receive 'stop' -> 'stopped' after v0 -> 'late'
 abbrev pub receive_loop : Body

@@ -10,17 +10,10 @@ use Rattle.world_model.specs.Run.{gives, raises, happenings, State, Outcome, wai
 use Rattle.ssa_form.specs.Ssa.{var, lit, bif, tuple, call_local, bs_start, bs_integer, bs_tail, peek, skip_message, set, succeeded, ret, Body}
 use Rattle.ssa_form.specs.Storage.{Ended, done}
 use Rattle.ssa_form.specs.SsaRun.{ssa_run}
-use Rattle.ssa_form.proofs.Bodies.{A, I, tup, to, plain_block, body_of, ok, start_with, runs, receive_loop, branch, head_or, tried, caught, calls_once, byte_shape}
+use Rattle.ssa_form.proofs.Bodies.{A, I, tup, to, plain_block, body_of, ok, start_with, runs, outcome, gives_term, receive_loop, branch, head_or, tried, caught, calls_once, byte_shape}
 
 abbrev word : List ℕ → Term
 word a = T.atom a
-
-abbrev outcome : Ended → Ended
-outcome (done s r) = done (start_with []) r
-outcome e = e
-
-abbrev gives_term : Term → Ended
-gives_term t = done (start_with []) (gives t)
 
 receives_late : runs receive_loop (I 5 ∷ []) (ok [] ∷ ok (word (codes "hello") ∷ []) ∷ ok [] ∷ ok [] ∷ [])
     ≡ done (record (start_with []) {

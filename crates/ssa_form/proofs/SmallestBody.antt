@@ -2,11 +2,11 @@
 use Rattle.std.proofs.Common.{rules, ◌≡◌, ℕ, zero, suc, List, [], ◌∷◌, Option, Some, None, refl, sym, ◌∙◌, subst, IsTrue, Contains}
 use Rattle.ssa_form.specs.Ssa.{var, Set, Last, ret, block, Body}
 use Rattle.ssa_form.specs.Storage.{Handler, Mode, tests}
-use Rattle.ssa_form.specs.SetFacts.{all_among}
-use Rattle.ssa_form.specs.Flow.{Place, place, set_at, last_at, targets, Effect, Step, passes, leads, succeeds, fails, raises, Way, begins, goes, Reached, Leads, Passing, one, more}
-use Rattle.ssa_form.specs.Liveness.{used_at}
+use Rattle.ssa_form.specs.SetFacts.{all_among, none_among}
+use Rattle.ssa_form.specs.Flow.{Place, place, set_at, last_at, phis_at, targets, Effect, Step, passes, leads, succeeds, fails, raises, Way, begins, goes, Reached, Leads, Passing, one, more}
+use Rattle.ssa_form.specs.Liveness.{used_at, values_at, lands_first}
 use Rattle.ssa_form.specs.ReceiveWindow.{Look}
-use Rattle.ssa_form.specs.WellFormed.{WellFormed, SetsOnce, tests_nothing}
+use Rattle.ssa_form.specs.WellFormed.{WellFormed, SetsOnce, tests_nothing, tags_in}
 use Rattle.ssa_form.proofs.Bodies.{plain_block, body_of}
 
 abbrev pub identity : Body
@@ -69,8 +69,15 @@ reads_param = search rules
 tests_none : IsTrue (tests_nothing (last_at identity start))
 tests_none = search rules
 
+no_tag : IsTrue (none_among (values_at identity start) (tags_in identity.blocks))
+no_tag = search rules
+
 once : SetsOnce identity
 once = search rules
+
+no_landing : (n : ℕ) → IsTrue (lands_first (set_at identity (place n 0))) → phis_at identity n ≡ []
+no_landing zero e = refl
+no_landing (suc n) e = refl
 
 pub identity_is_well_formed : WellFormed identity
 identity_is_well_formed = record {
@@ -78,14 +85,18 @@ identity_is_well_formed = record {
   in_form = λ p hs x m r e. absurd (no_set p x m (at_start p hs r) e);
   available = λ p vs hs w. subst (λ q. IsTrue (all_among (used_at identity q) vs)) (sym (only p vs hs w).at) (subst (λ us. IsTrue (all_among (used_at identity start) us)) (sym (only p vs hs w).vars) reads_param);
   edges = λ p q vs hs is' e w s. absurd (no_step p q hs is' e (only p vs hs w).at s);
+  values = λ p hs r. subst (λ q. IsTrue (none_among (values_at identity q) (tags_in identity.blocks))) (sym (at_start p hs r)) no_tag;
+  edge_values = λ p q hs is' e r s. absurd (no_step p q hs is' e (at_start p hs r) s);
   phis = λ n m l. absurd (no_lead n m l);
   starts = λ e. let f : Some (block [] [] (ret (var 0))) ≡ None = e in cc;
+  no_phis = refl;
   leads_on = λ n m l. absurd (no_lead n m l);
   tested = λ p hs r. subst (λ q. IsTrue (tests_nothing (last_at identity q))) (sym (at_start p hs r)) tests_none;
   closes = λ p hs x m r e. absurd (no_set p x m (at_start p hs r) e);
   ends = λ p hs l r e t. (only p r.0 hs r.1).handlers;
   lands = λ p h hs x m r e t. absurd (no_set p x m (at_start p (h ∷ hs) r) e);
   enters = λ n hs r t p ks is' e q s. absurd (no_step p _ ks is' e (at_start p ks q) s);
+  bare = no_landing;
   early = λ p hs x m r e. absurd (no_set p x m (at_start p hs r) e);
   cycles = λ n ns p. absurd (no_passing n n ns p);
   windows = λ w l. absurd (look_at_block w l);

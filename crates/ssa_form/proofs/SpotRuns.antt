@@ -1,38 +1,14 @@
 -- Small bodies with spots and with frames, run.
-use Rattle.std.proofs.Common.{◌≡◌, ℕ, List, [], ◌∷◌, Option, Some, None, refl, codes}
+use Rattle.std.proofs.Common.{◌≡◌, ℕ, List, [], ◌∷◌, Some, None, refl, codes}
 use Rattle.erl_term.specs.Term as T
 use Rattle.erl_term.specs.Term.{Term}
-use Rattle.erl_term.specs.Terms.{Values}
 use Rattle.bif_table.specs.Builtins as B
-use Rattle.world_model.specs.World.{Reply}
-use Rattle.world_model.specs.Run.{gives}
-use Rattle.ssa_form.specs.Ssa.{var, copy, bif, tuple, call_local, try_start, try_end, landing, FrameAction, allocate, deallocate, kill, trim, Set, set, Last, succeeded, ret, Block, Body}
+use Rattle.ssa_form.specs.Ssa.{var, copy, bif, tuple, call_local, try_start, try_end, landing, allocate, deallocate, kill, trim, set, succeeded, ret, Body}
 use Rattle.ssa_form.specs.Spots.{x_reg, y_slot, Spots}
-use Rattle.ssa_form.specs.Storage.{Ended, done}
-use Rattle.ssa_form.specs.SsaRun.{all_terms}
+use Rattle.ssa_form.specs.Storage.{Ended}
 use Rattle.ssa_form.specs.PlacedRun.{placed_run}
 use Rattle.ssa_form.specs.FramedRun.{framed_run}
-use Rattle.ssa_form.proofs.Bodies.{A, I, tup, to, plain_block, body_of, ok, start_with, here0, around0, receive_loop, branch, calls_once}
-
-abbrev placed : Body → Spots → Values → List Reply → Ended
-placed b ps vs rs = placed_run around0 here0 (record { body = b; spots = ps }) 20 (all_terms vs) [] (start_with rs)
-
-abbrev framed : Body → Spots → List (ℕ × ℕ) → Values → List Reply → Ended
-framed b ps sizes vs rs = framed_run around0 here0 (record { body = b; spots = ps; sizes = sizes }) 20 (all_terms vs) [] (start_with rs)
-
-abbrev outcome : Ended → Ended
-outcome (done s r) = done (start_with []) r
-outcome e = e
-
-abbrev gives_term : Term → Ended
-gives_term t = done (start_with []) (gives t)
-
--- a set, and a last, after frame actions
-abbrev acting : List FrameAction → Set → Set
-acting as' x = record x { before = as' }
-
-abbrev ending : List Set → List FrameAction → Last → Option Block
-ending xs as' l = Some (record { phis = []; chain = xs; before = as'; last = l })
+use Rattle.ssa_form.proofs.Bodies.{A, I, tup, to, plain_block, acting, ending, body_of, ok, placed, framed, outcome, gives_term, receive_loop, branch, calls_once}
 
 one_spot_for_two : outcome (placed branch ((0, x_reg 0) ∷ (1, x_reg 0) ∷ []) (I 2 ∷ []) []) ≡ gives_term (I 2)
 unfolding placed_run

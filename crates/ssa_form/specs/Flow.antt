@@ -3,7 +3,7 @@ use Rattle.std.specs.Prelude.{◌≡◌, ℕ, zero, suc, List, [], ◌∷◌, �
 use Rattle.ssa_form.specs.Ssa.{Arg, Op, try_start, try_end, FrameAction, Set, Last, br, succeeded, switch, ret, Phi, Block, Body, block_at}
 use Rattle.ssa_form.specs.Storage.{Handler, Mode, tests}
 use Rattle.ssa_form.specs.SsaRun.{mode_of, from_edge}
-use Rattle.ssa_form.specs.SetFacts.{arg_vars, dst_vars, is_tests, may_raise}
+use Rattle.ssa_form.specs.SetFacts.{arg_vars, given_vars, is_tests, may_raise}
 
 -- in a block, where this many of its sets are done
 pub record Place : Type 0 where
@@ -91,11 +91,11 @@ opened op d e hs = hs
 -- that the last tests, where a `try_start` does not fail; to a landing, by a set that may raise.
 pub data Step (b : Body) : Place → List Handler → Place → List Handler → Effect → Type 0 where
   passes : (p : Place) (hs : List Handler) (x : Set) (m : Mode) → set_at b p ≡ Some (x, m) → IsFalse (is_tests m)
-      → Step b p hs (next p) (after_op x.op hs) (setting (dst_vars x.dst))
+      → Step b p hs (next p) (after_op x.op hs) (setting (given_vars x))
   leads : (p : Place) (hs : List Handler) (l : Last) (n : ℕ) → last_at b p ≡ Some l → Contains (targets l) n
       → Step b p hs (place n 0) hs (entering b p.block n [])
   succeeds : (p : Place) (hs : List Handler) (x : Set) (v t e : ℕ) → set_at b p ≡ Some (x, tests e) → last_of (block_at b p.block) ≡ Some (succeeded v t e)
-      → Step b p hs (place t 0) (opened x.op x.dst e hs) (entering b p.block t (dst_vars x.dst))
+      → Step b p hs (place t 0) (opened x.op x.dst e hs) (entering b p.block t (given_vars x))
   fails : (p : Place) (hs : List Handler) (x : Set) (e : ℕ) → set_at b p ≡ Some (x, tests e) → (x.op ≡ try_start → ⊥)
       → Step b p hs (place e 0) hs (entering b p.block e [])
   raises : (p : Place) (h : Handler) (hs : List Handler) (x : Set) (m : Mode) → set_at b p ≡ Some (x, m) → IsTrue (may_raise m x.op)

@@ -7,7 +7,6 @@ pub mod Values
 pub mod Markers
 pub mod Operations
 pub mod SsaRun
-pub mod RunLaws
 pub mod Spots
 pub mod PlacedRun
 pub mod FramedRun
@@ -16,6 +15,8 @@ pub mod Flow
 pub mod Liveness
 pub mod ReceiveWindow
 pub mod WellFormed
+pub mod RunLaws
+pub mod PassView
 pub mod TypeFacts
 pub mod FactEquations
 pub mod PlacedView

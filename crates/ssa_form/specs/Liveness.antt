@@ -1,10 +1,10 @@
 -- Where a variable's value is needed, and its live interval.
-use Rattle.std.specs.Prelude.{◌≡◌, ◌≤◌, ◌↔◌, ℕ, suc, ◌+◌, List, [], ◌∷◌, ◌++◌, Contains, IsTrue, IsFalse, Bool, true, false, Option, Some, None}
+use Rattle.std.specs.Prelude.{◌≡◌, ◌≤◌, ◌↔◌, ◌⊎◌, ℕ, suc, ◌+◌, List, [], ◌∷◌, ◌++◌, Contains, IsTrue, IsFalse, Bool, true, false, Option, Some, None, if◌then◌else◌}
 use Rattle.ssa_form.specs.Ssa.{Set, Last, br, succeeded, switch, ret, Body}
 use Rattle.ssa_form.specs.Storage.{Handler, Mode}
 use Rattle.ssa_form.specs.SsaRun.{is_landing, is_catch_end}
-use Rattle.ssa_form.specs.SetFacts.{arg_vars, among, unsets_registers}
-use Rattle.ssa_form.specs.Flow.{Place, place, set_at, last_at, phis_at, phi_vars, Effect, Step, Reached}
+use Rattle.ssa_form.specs.SetFacts.{arg_vars, given_vars, among, names_handler, is_tests, may_raise, unsets_registers}
+use Rattle.ssa_form.specs.Flow.{Place, place, next, set_at, last_at, phis_at, phi_vars, after_op, Effect, Step, Reached}
 
 abbrev pub last_vars : Last → List ℕ
 last_vars (br a t e) = arg_vars (a ∷ [])
@@ -24,6 +24,14 @@ end_vars (Some l) = last_vars l
 abbrev pub used_at : Body → Place → List ℕ
 used_at b p = set_vars (set_at b p) ++ end_vars (last_at b p)
 
+-- those that are read there as values, not as the tags of handlers
+abbrev pub value_vars : Option (Set × Mode) → List ℕ
+value_vars None = []
+value_vars (Some x) = if names_handler x.0.op then [] else arg_vars x.0.args
+
+abbrev pub values_at : Body → Place → List ℕ
+values_at b p = value_vars (set_at b p) ++ end_vars (last_at b p)
+
 -- From a place with these open handlers, a path leads to a use of the variable and does not pass its definition. Phis read
 -- along the edge, before they are set.
 pub data LiveFrom (b : Body) (v : ℕ) : Place → List Handler → Type 0 where
@@ -36,6 +44,21 @@ pub data LiveFrom (b : Body) (v : ℕ) : Place → List Handler → Type 0 where
 -- live at a place that a way reaches
 abbrev pub Live : Body → ℕ → Place → Type 0
 Live b v p = (hs : List Handler) × Reached b p hs × LiveFrom b v p hs
+
+-- Live lists: for each block that ways reach, the variables that are live where it begins.
+
+abbrev pub LiveLists : Type 0
+LiveLists = List (ℕ × List ℕ)
+
+pub record AreLiveLists (b : Body) (ls : LiveLists) : Type 0 where
+  pub all : (n : ℕ) (hs : List Handler) → Reached b (place n 0) hs → (vs : List ℕ) × Contains ls (n, vs)
+  pub exact : (n : ℕ) (vs : List ℕ) → Contains ls (n, vs) → (v : ℕ) → Contains vs v ↔ Live b v (place n 0)
+
+-- where no path leads on but past the set: a variable is live before a set that reads it, or that leaves it and behind which it is
+abbrev pub LiveBeforeSet : Body → Type 0
+LiveBeforeSet b = (v : ℕ) (p : Place) (hs : List Handler) (x : Set) (m : Mode)
+    → set_at b p ≡ Some (x, m) → IsFalse (is_tests m) → IsFalse (may_raise m x.op)
+    → LiveFrom b v p hs ↔ (IsTrue (among v (arg_vars x.args)) ⊎ (IsFalse (among v (given_vars x)) × LiveFrom b v (next p) (after_op x.op hs)))
 
 -- On some step from a place, the variable is not set by the set there and is live behind it.
 pub data LiveAfter (b : Body) (v : ℕ) : Place → Type 0 where

@@ -1,5 +1,5 @@
 -- What can be said of a single set: its operands, whether it is in form, whether it may raise, and what it unsets.
-use Rattle.std.specs.Prelude.{ℕ, zero, suc, ◌*◌, List, [], ◌∷◌, length, Bool, true, false, not, ◌&&◌, ◌||◌, eqb, leb, Option, Some, None}
+use Rattle.std.specs.Prelude.{ℕ, zero, suc, ◌*◌, List, [], ◌∷◌, length, Bool, true, false, not, ◌&&◌, ◌||◌, eqb, leb, Option, Some, None, if◌then◌else◌}
 use Rattle.bif_table.specs.Builtins as B
 use Rattle.bif_table.specs.Builtins.{Bif, arity_of, is_guard}
 use Rattle.ssa_form.specs.Ssa.{Arg, var, lit, Check, is_eq_exact, is_ne_exact, is_eq, is_ne, is_lt, is_ge, is_function2, has_map_fields, Op, copy, bif, cons, tuple, map_put, map_get, element, hd, tl, check, make_fun, call_local, call_fun, call_remote, send, trace, raise, bs_start, bs_integer, bs_binary, bs_skip, bs_done, bs_unit, bs_tail, bs_position, bs_restore, bs_create, try_start, try_end, landing, catch_end, peek, take_message, skip_message, wait, reset, reserve, bind, use_marker, Set}
@@ -21,6 +21,10 @@ among v (w ∷ ws) = eqb v w || among v ws
 abbrev pub all_among : List ℕ → List ℕ → Bool
 all_among [] ws = true
 all_among (v ∷ vs) ws = among v ws && all_among vs ws
+
+abbrev pub none_among : List ℕ → List ℕ → Bool
+none_among [] ws = true
+none_among (v ∷ vs) ws = not (among v ws) && none_among vs ws
 
 abbrev pub is_tests : Mode → Bool
 is_tests (tests e) = true
@@ -120,6 +124,33 @@ abbrev pub needs_dst : Op → Bool
 needs_dst try_start = true
 needs_dst (peek n) = true
 needs_dst _ = false
+
+-- Operations that give their variable nothing. It may stand there for the last to name.
+abbrev pub gives_nothing : Op → Bool
+gives_nothing (check c) = true
+gives_nothing (bs_skip h) = true
+gives_nothing bs_done = true
+gives_nothing (bs_unit n) = true
+gives_nothing bs_restore = true
+gives_nothing try_end = true
+gives_nothing take_message = true
+gives_nothing skip_message = true
+gives_nothing wait = true
+gives_nothing reset = true
+gives_nothing bind = true
+gives_nothing use_marker = true
+gives_nothing _ = false
+
+-- the variable that a set gives something: a value, or a handler's tag
+abbrev pub given_vars : Set → List ℕ
+given_vars x = if gives_nothing x.op then [] else dst_vars x.dst
+
+-- operations whose operand is a handler's tag, which is no value
+abbrev pub names_handler : Op → Bool
+names_handler try_end = true
+names_handler landing = true
+names_handler catch_end = true
+names_handler _ = false
 
 abbrev pub is_there : Option ℕ → Bool
 is_there None = false

@@ -1,5 +1,5 @@
 -- The order in which the sets of a block are read.
-use Rattle.std.specs.Prelude.{ℕ, ◌+◌, List, [], ◌∷◌, Option, Some, None, eqb, slice_get, if◌then◌else◌}
+use Rattle.std.specs.Prelude.{◌≢◌, ℕ, ◌+◌, List, [], ◌∷◌, Contains, Option, Some, None, eqb, slice_get, if◌then◌else◌}
 use Rattle.slab.specs.Slab.{get}
 use Rattle.erl_base.specs.declared.ids.NodeId.{NodeId}
 use Rattle.ssa_form.specs.declared.op.Set.{Set}
@@ -28,6 +28,11 @@ nodes_of b n = nodes_in (chain_of b n)
 -- the set that a node holds
 abbrev pub set_at : Body → ℕ → Option Set
 set_at b n = slice_get b.chains.sets n
+
+-- every block has its chain, and every node of a chain its set
+pub record IsWhole (b : Body) : Type 0 where
+  pub chains : (k : ℕ) → get b.blocks k ≢ None → chain_of b k ≢ None
+  pub sets : (k : ℕ) (n : NodeId) → Contains (nodes_of b k) n → set_at b n.0 ≢ None
 
 abbrev pub first_of : List NodeId → Option NodeId
 first_of [] = None

@@ -1,12 +1,12 @@
 -- Well-formed bodies.
-use Rattle.std.specs.Prelude.{◌≡◌, ◌≢◌, ℕ, List, [], ◌∷◌, ◌++◌, Some, None, Option, IsTrue, IsFalse, Bool, true, false, not, ◌&&◌, ◌||◌, eqb, leb, length}
+use Rattle.std.specs.Prelude.{◌≡◌, ◌≢◌, ℕ, List, [], ◌∷◌, ◌++◌, Some, None, Option, IsTrue, IsFalse, Bool, true, false, not, ◌&&◌, ◌||◌, eqb, leb, length, if◌then◌else◌}
 use Rattle.ssa_form.specs.Ssa.{Arg, Op, try_end, landing, catch_end, call_local, Set, Last, succeeded, ret, Phi, Block, Body, block_at}
 use Rattle.ssa_form.specs.Storage.{Handler, Mode}
 use Rattle.ssa_form.specs.SsaRun.{is_tag, from_edge, lands, ends_catch}
 use Rattle.ssa_form.specs.Values.{takes}
-use Rattle.ssa_form.specs.SetFacts.{dst_vars, among, all_among, in_form, breaks_cycle, is_peek, may_raise}
+use Rattle.ssa_form.specs.SetFacts.{dst_vars, among, all_among, none_among, in_form, breaks_cycle, is_peek, is_try_start, may_raise}
 use Rattle.ssa_form.specs.Flow.{Place, place, set_at, last_at, phis_at, phi_vars, Effect, Step, Way, Reached, Leads, Passing}
-use Rattle.ssa_form.specs.Liveness.{used_at, lands_first}
+use Rattle.ssa_form.specs.Liveness.{used_at, values_at, lands_first}
 use Rattle.ssa_form.specs.ReceiveWindow.{WindowRule}
 
 -- Each variable is set at one place.
@@ -22,6 +22,17 @@ block_sets (Some x) = phi_vars x.phis ++ chain_sets x.chain
 abbrev pub blocks_set : List (Option Block) → List ℕ
 blocks_set [] = []
 blocks_set (o ∷ os) = block_sets o ++ blocks_set os
+
+-- the variables that are tags of handlers
+
+abbrev pub chain_tags : List Set → List ℕ
+chain_tags [] = []
+chain_tags (x ∷ xs) = if is_try_start x.op then dst_vars x.dst ++ chain_tags xs else chain_tags xs
+
+abbrev pub tags_in : List (Option Block) → List ℕ
+tags_in [] = []
+tags_in (None ∷ os) = tags_in os
+tags_in (Some x ∷ os) = chain_tags x.chain ++ tags_in os
 
 abbrev pub all_distinct : List ℕ → Bool
 all_distinct [] = true
@@ -100,9 +111,14 @@ pub record WellFormed (b : Body) : Type 0 where
   -- on every way to a place, what is read there was set; and what phis read along an edge
   pub available : (p : Place) (vs : List ℕ) (hs : List Handler) → Way b p vs hs → IsTrue (all_among (used_at b p) vs)
   pub edges : (p q : Place) (vs : List ℕ) (hs is' : List Handler) (e : Effect) → Way b p vs hs → Step b p hs q is' e → IsTrue (all_among e.reads (e.sets ++ vs))
+  -- no tag is read as a value
+  pub values : (p : Place) (hs : List Handler) → Reached b p hs → IsTrue (none_among (values_at b p) (tags_in b.blocks))
+  pub edge_values : (p q : Place) (hs is' : List Handler) (e : Effect) → Reached b p hs → Step b p hs q is' e → IsTrue (none_among e.reads (tags_in b.blocks))
   pub phis : (n m : ℕ) → Leads b n m → IsTrue (have_edges (phis_at b m) n)
   -- ways lead to blocks that are there, and a last that tests has a set to test
   pub starts : block_at b 0 ≢ None
+  -- the first block is entered by no edge where the body begins, so it has no phis
+  pub no_phis : phis_at b 0 ≡ []
   pub leads_on : (n m : ℕ) → Leads b n m → block_at b m ≢ None
   pub tested : (p : Place) (hs : List Handler) → Reached b p hs → IsTrue (tests_nothing (last_at b p))
   -- handlers close from the inside out, and none is open where a body ends
@@ -111,6 +127,8 @@ pub record WellFormed (b : Body) : Type 0 where
   -- raises lead to landing blocks of their handler, and nothing else leads to one
   pub lands : (p : Place) (h : Handler) (hs : List Handler) (x : Set) (m : Mode) → Reached b p (h ∷ hs) → set_at b p ≡ Some (x, m) → IsTrue (may_raise m x.op) → IsTrue (is_landing_for h.tag (block_at b h.landing))
   pub enters : (n : ℕ) (hs : List Handler) → Reached b (place n 0) hs → IsTrue (lands_first (set_at b (place n 0))) → IsLandingOnly b n
+  -- no code stands on the way of a raise, so nothing is chosen there by a phi
+  pub bare : (n : ℕ) → IsTrue (lands_first (set_at b (place n 0))) → phis_at b n ≡ []
   pub early : (p : Place) (hs : List Handler) (x : Set) (m : Mode) → Reached b p hs → set_at b p ≡ Some (x, m) → IsTrue (lands_early x.op p.done (lands_first (set_at b (place p.block 0))))
   pub cycles : CycleRule b
   pub windows : WindowRule b

@@ -83,18 +83,22 @@ pub struct Body {
 
 impl Body {
     /// The first set of a block.
+    #[tactic(auto, using(crate::proofs::WholeBodies::first_there))]
     pub fn first_set(&self, b: BlockId) -> Option<NodeId>
         requires { chain_of self.now b.0 ≢ None }
-        ensures { result ≡ first_of (nodes_of self.now b.0) }
+        ensures first { result ≡ first_of (nodes_of self.now b.0) }
+        ensures there { IfSome result (λ n. Contains (nodes_of self.now b.0) n) }
     {
         self.nodes(b).first().copied()
     }
 
     /// The set after one of a block's.
+    #[tactic(auto, using(crate::proofs::WholeBodies::next_there))]
     pub fn next_set(&self, b: BlockId, n: NodeId) -> Option<NodeId>
         requires block { chain_of self.now b.0 ≢ None }
         requires node { Contains (nodes_of self.now b.0) n }
-        ensures { result ≡ next_after n.0 (nodes_of self.now b.0) }
+        ensures next { result ≡ next_after n.0 (nodes_of self.now b.0) }
+        ensures there { IfSome result (λ m. Contains (nodes_of self.now b.0) m) }
     {
         let mut found = false;
         for node in self.nodes(b) {

@@ -1,7 +1,7 @@
 // Building bodies: a block is added with all its sets, and the blocks that are there stay as they are.
 ghost use Rattle.std.specs.Prelude.{◌≡◌, ◌≢◌, ℕ, [], ◌∷◌, ◌++◌, length, take, IfOk, OnErr, Some, None};
 ghost use Rattle.slab.specs.Slab.{get, Updates};
-ghost use Rattle.ssa_form.specs.SetOrder.{chain_of, numbered, block_of};
+ghost use Rattle.ssa_form.specs.SetOrder.{IsWhole, chain_of, numbered, block_of};
 
 use crate::block::{Block, Last, Phis};
 use crate::body::{Body, NodeIds, SetLists};
@@ -53,8 +53,16 @@ impl SetLists {
 impl Body {
     /// A body without blocks.
     pub fn new(alloc: Global, key: FunKey, site: SiteId, params: List<VarId>) -> Body
+        ensures key { result.key ≡ key }
+        ensures site { result.site ≡ site }
         ensures params { result.params ≡ params }
+        ensures facts { result.facts ≡ [] }
+        ensures contexts { result.contexts ≡ [] }
+        ensures marks { result.marks ≡ [] }
+        ensures regions { result.regions ≡ [] }
+        ensures numbers { result.numbers ≡ [] }
         ensures blocks { (n : ℕ) → get result.blocks n ≡ None }
+        ensures whole { IsWhole result }
     {
         Body {
             key,
@@ -81,7 +89,15 @@ impl Body {
         ensures block { IfOk result (λ id. Updates self.old.blocks self.new.blocks id.0 (Some (block_of phis (length self.old.chains.chains) last))) }
         ensures nodes { IfOk result (λ id. chain_of self.new id.0 ≡ Some (numbered (length self.old.chains.sets) sets)) }
         ensures sets { IfOk result (λ id. self.new.chains.sets ≡ self.old.chains.sets ++ sets) }
+        ensures key { self.new.key ≡ self.old.key }
+        ensures site { self.new.site ≡ self.old.site }
         ensures params { self.new.params ≡ self.old.params }
+        ensures facts { self.new.facts ≡ self.old.facts }
+        ensures contexts { self.new.contexts ≡ self.old.contexts }
+        ensures marks { self.new.marks ≡ self.old.marks }
+        ensures regions { self.new.regions ≡ self.old.regions }
+        ensures numbers { self.new.numbers ≡ self.old.numbers }
+        ensures whole { IfOk result (λ id. IsWhole self.old → IsWhole self.new) }
     {
         let chain = self.chains.add(alloc, sets)?;
         let id = self.blocks.insert(Block { phis, chain, last })?;

@@ -1,5 +1,5 @@
 //! Bodies of functions as basic blocks in SSA form, plain, with spots and with stack frames; who makes them is said elsewhere.
-//! Not proved: that runs end under the cycle rule, and that well-formed bodies read no unset variable.
+//! A law's function has no code: its contract is the law.
 // Every call that takes memory may answer NoMemory, which no clause ties to a cause; tests show that the calls can succeed.
 // `Arg::default` fills unused places of short lists, and no clause speaks of it.
 #![tactic(auto)]
@@ -20,7 +20,11 @@ pub use body::{
     Body, Fact, Interval, Intervals, Mark, Marks, NodeIds, Regions, Reuse, ReusedParam, SetLists,
     VarFacts,
 };
-pub use laws::{body_has_one_result, more_blocks_change_nothing};
+pub use laws::{
+    body_has_one_result, forms_have_one_result, liveness_goes_over_a_set,
+    more_blocks_change_nothing, runs_end_under_the_cycle_rule, runs_give_no_entries_back,
+    unset_variables_are_never_seen,
+};
 pub use op::{Check, Field, Fields, Op, Set};
 pub use placed::{
     BlockFrame, BlockFrames, FrameAction, FrameActions, Framed, Move, MoveStep, MoveSteps, Moves,

@@ -1,0 +1,2 @@
+pub mod SameRun
+pub mod PassContract
