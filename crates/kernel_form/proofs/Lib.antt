@@ -1,5 +1,1 @@
-mod Modules
-pub mod Agreeing
-pub mod Steady
-mod Examples
-mod Checked
+pub mod ChainEnds

@@ -1,11 +1,4 @@
 pub mod Kernel
-pub mod Environment
-pub mod PatternMatch
-pub mod Steps
-pub mod KernelRun
-pub mod Agreement
-pub mod PassContract
-pub mod Walks
-pub mod KernelPredicate
 pub mod View
-pub mod TreeContract
+pub mod Chains
+pub mod Apart

@@ -2,7 +2,6 @@
 use Rattle.std.specs.Prelude.{ℕ, List, [], ◌∷◌, map}
 use Rattle.erl_base.specs.declared.ids.VarId.{VarId}
 use Rattle.erl_term.specs.View as Terms
-use Rattle.erl_term.specs.Segments as Segments
 use Rattle.bif_table.specs.View.{bif_view}
 use Rattle.kernel_form.specs.declared.value.KValue.{KValue}
 use Rattle.kernel_form.specs.declared.value.KValue.TheVariants as V

@@ -1,6 +1,12 @@
-// Expressions and decision trees. Let chains, the second trees of `Either` and the first ones of `Step` are as long as a
-// body, so what walks them goes along in a loop.
+// Expressions and decision trees. Let chains, the second trees of `Either`, the first ones of `Step` and the trees of last
+// cases and rows are as long as a body, so what walks them goes along in a loop.
+ghost use Rattle.std.specs.Prelude.{◌≡◌};
+ghost use Rattle.kernel_form.specs.Apart.{expr_parts_view, tree_parts_view};
+ghost use Rattle.kernel_form.specs.View.{view, tree_view};
+ghost use Rattle.kernel_form.specs.declared.tree.Case.{out-Case};
+ghost use Rattle.kernel_form.specs.declared.tree.SegRow.{out-SegRow};
 
+use crate::apart::{ExprParts, TreeParts};
 use crate::pattern::{KPats, KSeg, KSegs};
 use crate::value::{KSimple, KValue, KValues, Vars};
 use erl_base::{Boxed, List, VarId};
@@ -50,7 +56,7 @@ pub struct SegRow {
 }
 
 /// `MapHas` is a map that has the key; its part is the key's value.
-#[derive(Debug, Drop)]
+#[derive(Drop)]
 pub enum Shape {
     Lit(Term),
     Cons,
@@ -83,6 +89,63 @@ pub type Cases = List<Case>;
 pub type SegRows = List<SegRow>;
 
 pub type Rows = List<Row>;
+
+impl KExpr {
+    pub fn into_parts(self) -> ExprParts
+        ensures { expr_parts_view result ≡ view self }
+    {
+        match self {
+            KExpr::Values(values) => ExprParts::Values(values),
+            KExpr::Simple(simple) => ExprParts::Simple(simple),
+            KExpr::Let(vars, value, body) => ExprParts::Let(vars, value, body),
+            KExpr::Match(tree) => ExprParts::Match(tree),
+            KExpr::Try(tried, vars, body, caught, handler) => {
+                ExprParts::Try(tried, vars, body, caught, handler)
+            }
+            KExpr::Catch(body) => ExprParts::Catch(body),
+            KExpr::Receive(number, message, clauses, timeout, after) => {
+                ExprParts::Receive(number, message, clauses, timeout, after)
+            }
+        }
+    }
+}
+
+impl Tree {
+    pub fn into_parts(self) -> TreeParts
+        ensures { tree_parts_view result ≡ tree_view self }
+    {
+        match self {
+            Tree::Body(body) => TreeParts::Body(body),
+            Tree::Fall(number) => TreeParts::Fall(number),
+            Tree::Either(number, first, second) => TreeParts::Either(number, first, second),
+            Tree::Switch(var, cases, last) => TreeParts::Switch(var, cases, last),
+            Tree::Segments(var, rows, last) => TreeParts::Segments(var, rows, last),
+            Tree::Step(step, then, last) => TreeParts::Step(step, then, last),
+            Tree::Guarded(guard, then, last) => TreeParts::Guarded(guard, then, last),
+        }
+    }
+}
+
+impl Case {
+    fn into_then(self) -> Tree
+        ensures { result ≡ (out-Case self).then }
+    {
+        let Case { shape, parts, then } = self;
+        let_go(shape);
+        let_go(parts);
+        then
+    }
+}
+
+impl SegRow {
+    fn into_then(self) -> Tree
+        ensures { result ≡ (out-SegRow self).then }
+    {
+        let SegRow { segs, then } = self;
+        let_go(segs);
+        then
+    }
+}
 
 impl Drop for KExpr {
     #[cycle(drop)]
@@ -143,16 +206,28 @@ impl Drop for Tree {
                     let_go(first);
                     self = second.into_inner();
                 }
-                Tree::Switch(_, cases, last) => {
-                    let_go(cases);
-                    let_go(last);
-                    return;
-                }
-                Tree::Segments(_, rows, last) => {
-                    let_go(rows);
-                    let_go(last);
-                    return;
-                }
+                Tree::Switch(_, mut cases, last) => match cases.pop() {
+                    None => {
+                        let_go(cases);
+                        self = last.into_inner();
+                    }
+                    Some(case) => {
+                        let_go(cases);
+                        let_go(last);
+                        self = case.into_then();
+                    }
+                },
+                Tree::Segments(_, mut rows, last) => match rows.pop() {
+                    None => {
+                        let_go(rows);
+                        self = last.into_inner();
+                    }
+                    Some(row) => {
+                        let_go(rows);
+                        let_go(last);
+                        self = row.into_then();
+                    }
+                },
                 Tree::Step(step, then, last) => {
                     let_go(step);
                     let_go(last);

@@ -1,5 +1,6 @@
 // Values and the simple steps that are made of them; a step evaluates nothing else.
 ghost use Rattle.std.specs.Prelude.{◌≡◌, IfOk};
+ghost use Rattle.kernel_form.specs.declared.value.KSimple.TheVariants as S;
 
 use bif_table::Bif;
 use erl_base::{Duplicate, List, NoMemory, SiteId, VarId};
@@ -7,14 +8,14 @@ use erl_term::Term;
 use std::alloc::Global;
 
 /// A variable, or a term that is known.
-#[derive(Debug, Drop)]
+#[derive(Drop)]
 pub enum KValue {
     Var(VarId),
     Lit(Term),
 }
 
 /// A pair of a map that is built; `exact` where its key has to be there.
-#[derive(Debug, Drop)]
+#[derive(Drop)]
 pub struct KPair {
     pub key: KValue,
     pub value: KValue,
@@ -22,7 +23,7 @@ pub struct KPair {
 }
 
 /// A segment of a binary that is built; `whole` where its size was written as the literal `'all'`.
-#[derive(Debug, Drop)]
+#[derive(Drop)]
 pub struct KPart {
     pub value: KValue,
     pub size: KValue,
@@ -36,7 +37,7 @@ pub struct KPart {
 /// What gives one value. `Fun` makes a fun of a function and the terms that it captured, `Local` calls a function of the
 /// module by its site, `Apply` a fun value, `Remote` a function of a module by their names; `Raise` raises again what a
 /// trace keeps, and `Fail` raises an error.
-#[derive(Debug, Drop)]
+#[derive(Drop)]
 pub enum KSimple {
     Value(KValue),
     Cons(KValue, KValue),
@@ -111,40 +112,72 @@ impl KSimple {
     {
         match self {
             KSimple::Value(value) => Ok(KSimple::Value(value.copy(alloc)?)),
-            KSimple::Cons(head, tail) => {
-                let head = head.copy(alloc)?;
-                Ok(KSimple::Cons(head, tail.copy(alloc)?))
-            }
+            KSimple::Cons(head, tail) => copy_cons(head, tail, alloc),
             KSimple::Tuple(items) => Ok(KSimple::Tuple(items.copy(alloc)?)),
-            KSimple::MapPut(base, pairs) => {
-                let base = base.copy(alloc)?;
-                Ok(KSimple::MapPut(base, pairs.copy(alloc)?))
-            }
+            KSimple::MapPut(base, pairs) => copy_map_put(base, pairs, alloc),
             KSimple::Bits(parts) => Ok(KSimple::Bits(parts.copy(alloc)?)),
             KSimple::Fun(site, captured) => Ok(KSimple::Fun(*site, captured.copy(alloc)?)),
             KSimple::Bif(bif, arguments) => Ok(KSimple::Bif(*bif, arguments.copy(alloc)?)),
             KSimple::Local(site, arguments) => Ok(KSimple::Local(*site, arguments.copy(alloc)?)),
-            KSimple::Apply(function, arguments) => {
-                let function = function.copy(alloc)?;
-                Ok(KSimple::Apply(function, arguments.copy(alloc)?))
-            }
+            KSimple::Apply(function, arguments) => copy_apply(function, arguments, alloc),
             KSimple::Remote(module, function, arguments) => {
-                let module = module.copy(alloc)?;
-                let function = function.copy(alloc)?;
-                Ok(KSimple::Remote(module, function, arguments.copy(alloc)?))
+                copy_remote(module, function, arguments, alloc)
             }
-            KSimple::Send(to, message) => {
-                let to = to.copy(alloc)?;
-                Ok(KSimple::Send(to, message.copy(alloc)?))
-            }
+            KSimple::Send(to, message) => copy_send(to, message, alloc),
             KSimple::Trace => Ok(KSimple::Trace),
-            KSimple::Raise(trace, reason) => {
-                let trace = trace.copy(alloc)?;
-                Ok(KSimple::Raise(trace, reason.copy(alloc)?))
-            }
+            KSimple::Raise(trace, reason) => copy_raise(trace, reason, alloc),
             KSimple::Fail(reason) => Ok(KSimple::Fail(reason.copy(alloc)?)),
         }
     }
+}
+
+// A step with several parts has a function of its own, which keeps the proof of the match over all steps small.
+fn copy_cons(head: &KValue, tail: &KValue, alloc: Global) -> Result<KSimple, NoMemory>
+    ensures { IfOk result (λ copy. copy ≡ S.Cons head.now tail.now) }
+{
+    let head = head.copy(alloc)?;
+    Ok(KSimple::Cons(head, tail.copy(alloc)?))
+}
+
+fn copy_map_put(base: &KValue, pairs: &KPairs, alloc: Global) -> Result<KSimple, NoMemory>
+    ensures { IfOk result (λ copy. copy ≡ S.MapPut base.now pairs.now) }
+{
+    let base = base.copy(alloc)?;
+    Ok(KSimple::MapPut(base, pairs.copy(alloc)?))
+}
+
+fn copy_apply(function: &KValue, arguments: &KValues, alloc: Global) -> Result<KSimple, NoMemory>
+    ensures { IfOk result (λ copy. copy ≡ S.Apply function.now arguments.now) }
+{
+    let function = function.copy(alloc)?;
+    Ok(KSimple::Apply(function, arguments.copy(alloc)?))
+}
+
+fn copy_remote(
+    module_name: &KValue,
+    function: &KValue,
+    arguments: &KValues,
+    alloc: Global,
+) -> Result<KSimple, NoMemory>
+    ensures { IfOk result (λ copy. copy ≡ S.Remote module_name.now function.now arguments.now) }
+{
+    let module = module_name.copy(alloc)?;
+    let function = function.copy(alloc)?;
+    Ok(KSimple::Remote(module, function, arguments.copy(alloc)?))
+}
+
+fn copy_send(to: &KValue, message: &KValue, alloc: Global) -> Result<KSimple, NoMemory>
+    ensures { IfOk result (λ copy. copy ≡ S.Send to.now message.now) }
+{
+    let to = to.copy(alloc)?;
+    Ok(KSimple::Send(to, message.copy(alloc)?))
+}
+
+fn copy_raise(trace: &KValue, reason: &KValue, alloc: Global) -> Result<KSimple, NoMemory>
+    ensures { IfOk result (λ copy. copy ≡ S.Raise trace.now reason.now) }
+{
+    let trace = trace.copy(alloc)?;
+    Ok(KSimple::Raise(trace, reason.copy(alloc)?))
 }
 
 impl Duplicate for KValue {

@@ -1,0 +1,273 @@
+use crate::build::{
+    boxed, boxed_tree, either, fall, give, let_in, match_in, one_var, simple, step, switch,
+    two_values, var,
+};
+use crate::{
+    BinStep, Case, KExpr, KFun, KKeyPat, KPair, KPart, KPat, KPats, KSeg, KSegs, KSimple, KValue,
+    Kernel, Row, SegRow, Shape, Tree, TreeParts,
+};
+use erl_base::{Duplicate, FunKey, List, Name, NoMemory, SiteId, VarId};
+use erl_term::Term;
+use std::alloc::Global;
+use std::test::Fail;
+
+/// How long a chain is that no stack holds if each part has a frame.
+const LONG: u32 = 100000;
+
+fn lets(alloc: Global, count: u32) -> Result<KExpr, NoMemory> {
+    let mut expr = give(alloc, var(0))?;
+    for number in 0..count {
+        let vars = one_var(alloc, number)?;
+        let value = boxed(alloc, simple(KSimple::Trace))?;
+        expr = let_in(vars, value, boxed(alloc, expr)?);
+    }
+    Ok(expr)
+}
+
+/// Three kinds of nodes in turn, one in the other.
+fn nodes(alloc: Global, count: u32) -> Result<Tree, NoMemory> {
+    let mut tree = fall(1);
+    for number in 0..count {
+        tree = around(alloc, number, tree)?;
+    }
+    Ok(tree)
+}
+
+fn around(alloc: Global, number: u32, tree: Tree) -> Result<Tree, NoMemory> {
+    match number % 3 {
+        0 => second_of(alloc, number, tree),
+        1 => first_of(alloc, tree),
+        _ => one_case(alloc, tree),
+    }
+}
+
+fn second_of(alloc: Global, number: u32, tree: Tree) -> Result<Tree, NoMemory> {
+    let second = boxed_tree(alloc, tree)?;
+    Ok(either(number, boxed_tree(alloc, fall(0))?, second))
+}
+
+fn first_of(alloc: Global, tree: Tree) -> Result<Tree, NoMemory> {
+    let then = boxed_tree(alloc, tree)?;
+    let last = boxed_tree(alloc, fall(0))?;
+    Ok(step(BinStep::Done(VarId(0)), then, last))
+}
+
+fn one_case(alloc: Global, then: Tree) -> Result<Tree, NoMemory> {
+    let mut cases = List::new(alloc);
+    let parts = one_var(alloc, 7)?;
+    cases.push(Case {
+        shape: Shape::Tuple(1),
+        parts,
+        then,
+    })?;
+    Ok(switch(0, cases, boxed_tree(alloc, fall(0))?))
+}
+
+fn let_count(expr: &KExpr) -> u32 {
+    let mut count = 0u32;
+    let mut rest = expr;
+    while let KExpr::Let(_, _, body) = rest {
+        count = count.saturating_add(1);
+        rest = body.get();
+    }
+    count
+}
+
+#[test]
+fn long_lets_need_no_stack(rt: HostRuntime) -> Result<(), Fail> {
+    let expr = lets(rt.alloc(), LONG)?;
+    let copy = expr.copy(rt.alloc())?;
+    drop(expr);
+    assert_eq!(rt; let_count(&copy), LONG);
+    Ok(())
+}
+
+#[test]
+fn long_trees_need_no_stack(rt: HostRuntime) -> Result<(), Fail> {
+    let tree = nodes(rt.alloc(), LONG)?;
+    let copy = tree.copy(rt.alloc())?;
+    drop(tree);
+    assert!(rt; matches!(copy.into_parts(), TreeParts::Either(99999, _, _)));
+    Ok(())
+}
+
+fn module_of(alloc: Global, expr: KExpr) -> Result<Kernel, NoMemory> {
+    let name = Name::from_text(alloc, "f")?;
+    let key = FunKey { name, arity: 1 };
+    let mut exports = List::new(alloc);
+    exports.push(key.copy(alloc)?)?;
+    let params = one_var(alloc, 0)?;
+    let mut funs = List::new(alloc);
+    funs.push(KFun {
+        key,
+        site: SiteId(0),
+        params,
+        next: 9,
+        body: expr,
+    })?;
+    Ok(Kernel {
+        name: Name::from_text(alloc, "m")?,
+        exports,
+        attributes: List::new(alloc),
+        funs,
+    })
+}
+
+#[test]
+fn modules_are_copied(rt: HostRuntime) -> Result<(), Fail> {
+    let alloc = rt.alloc();
+    let tree = nodes(alloc, 4)?;
+    let kernel = module_of(alloc, match_in(tree))?;
+    let copy = kernel.copy(alloc)?;
+    drop(kernel);
+    assert!(rt; copy.name.as_str() == "m");
+    assert_eq!(rt; copy.exports.len(), 1);
+    match copy.funs.as_slice() {
+        [fun] => assert!(rt; matches!(&fun.body, KExpr::Match(Tree::Either(3, _, _)))),
+        _ => assert!(rt; false),
+    }
+    Ok(())
+}
+
+fn pair_of(alloc: Global) -> Result<KSimple, NoMemory> {
+    let mut pairs = List::new(alloc);
+    pairs.push(KPair {
+        key: var(1),
+        value: KValue::Lit(Term::Int(5)),
+        exact: true,
+    })?;
+    Ok(KSimple::MapPut(var(0), pairs))
+}
+
+#[test]
+fn map_updates_are_copied(rt: HostRuntime) -> Result<(), Fail> {
+    let copy = pair_of(rt.alloc())?.copy(rt.alloc())?;
+    assert!(rt; is_exact_update(&copy));
+    Ok(())
+}
+
+fn is_exact_update(step: &KSimple) -> bool {
+    match step {
+        KSimple::MapPut(KValue::Var(VarId(0)), pairs) => match pairs.as_slice() {
+            [pair] => pair.exact && matches!(&pair.value, KValue::Lit(Term::Int(5))),
+            _ => false,
+        },
+        _ => false,
+    }
+}
+
+fn part() -> KPart {
+    KPart {
+        value: var(3),
+        size: var(4),
+        unit: 8,
+        signed: false,
+        little: true,
+        whole: false,
+        binary: true,
+    }
+}
+
+#[test]
+fn binary_parts_are_copied(rt: HostRuntime) -> Result<(), Fail> {
+    let mut parts = List::new(rt.alloc());
+    parts.push(part())?;
+    let copy = KSimple::Bits(parts).copy(rt.alloc())?;
+    assert!(rt; is_little_part(&copy));
+    Ok(())
+}
+
+fn is_little_part(step: &KSimple) -> bool {
+    match step {
+        KSimple::Bits(parts) => match parts.as_slice() {
+            [part] => part.unit == 8 && part.little && part.binary && !part.whole,
+            _ => false,
+        },
+        _ => false,
+    }
+}
+
+fn segs(alloc: Global) -> Result<KSegs, NoMemory> {
+    let mut segs = List::new(alloc);
+    segs.push(KSeg {
+        value: KPat::Var(VarId(5)),
+        size: var(6),
+        unit: 1,
+        signed: true,
+        little: false,
+        whole: true,
+        binary: false,
+    })?;
+    Ok(segs)
+}
+
+fn keyed(alloc: Global) -> Result<KPats, NoMemory> {
+    let mut keys = List::new(alloc);
+    let pat = KPat::Bits(segs(alloc)?);
+    keys.push(KKeyPat { key: var(1), pat })?;
+    let mut pats = List::new(alloc);
+    pats.push(KPat::Map(keys))?;
+    Ok(pats)
+}
+
+fn row_of(alloc: Global) -> Result<Row, NoMemory> {
+    let pats = keyed(alloc)?;
+    let guard = give(alloc, var(1))?;
+    let body = KExpr::Values(two_values(alloc, var(1), var(2))?);
+    Ok(Row { pats, guard, body })
+}
+
+fn are_segs(segs: &KSegs) -> bool {
+    match segs.as_slice() {
+        [seg] => seg.signed && seg.whole && matches!(&seg.value, KPat::Var(VarId(5))),
+        _ => false,
+    }
+}
+
+fn is_keyed(pat: &KPat) -> bool {
+    match pat {
+        KPat::Map(keys) => match keys.as_slice() {
+            [key] => matches!(&key.pat, KPat::Bits(segs) if are_segs(segs)),
+            _ => false,
+        },
+        _ => false,
+    }
+}
+
+#[test]
+fn clauses_are_copied(rt: HostRuntime) -> Result<(), Fail> {
+    let copy = row_of(rt.alloc())?.copy(rt.alloc())?;
+    assert_eq!(rt; copy.pats.len(), 1);
+    match copy.pats.as_slice() {
+        [pat] => assert!(rt; is_keyed(pat)),
+        _ => assert!(rt; false),
+    }
+    assert!(rt; matches!(&copy.body, KExpr::Values(values) if values.len() == 2));
+    Ok(())
+}
+
+#[test]
+fn cases_are_copied(rt: HostRuntime) -> Result<(), Fail> {
+    let alloc = rt.alloc();
+    let parts = one_var(alloc, 7)?;
+    let case = Case {
+        shape: Shape::Tuple(1),
+        parts,
+        then: fall(3),
+    };
+    let copy = case.copy(alloc)?;
+    assert!(rt; matches!(&copy.then, Tree::Fall(3)));
+    Ok(())
+}
+
+#[test]
+fn rows_are_copied(rt: HostRuntime) -> Result<(), Fail> {
+    let segs = segs(rt.alloc())?;
+    let row = SegRow {
+        segs,
+        then: fall(4),
+    };
+    let copy = row.copy(rt.alloc())?;
+    assert!(rt; are_segs(&copy.segs));
+    Ok(())
+}

@@ -1,0 +1,4 @@
+pub mod Agreeing
+pub mod Steady
+mod Examples
+mod Checked

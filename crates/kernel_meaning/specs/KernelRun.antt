@@ -1,0 +1,156 @@
+-- What a function in kernel form does (this project's own; the rules are those of Core Erlang 1.0.3, section 5).
+use Rattle.std.specs.Prelude.{ℕ, suc, List, [], ◌∷◌, length, map, slice_get, Bool, true, false, eqb, Option, Some, None, if◌then◌else◌, codes}
+use Rattle.erl_base.specs.declared.ids.FunKey.{FunKey}
+use Rattle.erl_base.specs.Names.{same_key}
+use Rattle.erl_term.specs.Term as T
+use Rattle.erl_term.specs.Term.{Term}
+use Rattle.erl_term.specs.TermOrder.{same_term}
+use Rattle.erl_term.specs.Terms.{Values, terms, class_word, word}
+use Rattle.world_model.specs.World.{Script}
+use Rattle.world_model.specs.Run.{State, Outcome, M, ◌>>=◌, give, fail}
+use Rattle.world_model.specs.Meaning.{one, either}
+use Rattle.world_model.specs.Requests.{exit_of}
+use Rattle.world_model.specs.Receive.{timeout_of, Tried, cutting, receiving}
+use Rattle.step_machine.specs.Bodies.{Here, Body, Bodies, entered_deep}
+use Rattle.core_meaning.specs.ReceiveCost.{subs, serial_of, unbound}
+use Rattle.core_meaning.specs.ClauseChoice.{blank, is_true, none_tried, and_cuts, clause_reason}
+use Rattle.core_meaning.specs.MarkingCalls.{marking, beginning}
+use Rattle.core_meaning.specs.CoreRun.{Result, ended, start}
+use Rattle.kernel_form.specs.Kernel.{remote, Segs, Expr, values, simple, let_in, match_in, try, catch, receive, Tree, body, fall, either_in, switch, segments, step, guarded, case, Cases, no_case, and_case, seg_row, SegRows, and_row, Row, Fun, Kernel}
+use Rattle.kernel_meaning.specs.Environment.{Env, no_values, with_value, with_values, Rests, no_rests, read, read_all, Setting, reference_of, is_reference}
+use Rattle.kernel_meaning.specs.PatternMatch.{with_bindings, match_segs, seg_cuts, match_all, all_cuts}
+use Rattle.kernel_meaning.specs.Steps.{simply, parts_of, Stepped, bin_step}
+
+-- where a fall goes, with the contexts as they are then; nothing is tried where no `either_in` has its number
+abbrev pub Falls : Type 0
+Falls = ℕ → Rests → Tried Values
+
+abbrev pub no_falls : Falls
+no_falls k r = none_tried
+
+abbrev pub with_fall : Falls → ℕ → (Rests → Tried Values) → Falls
+with_fall fs k f = λ j. if eqb j k then f else fs j
+
+abbrev pub taken : M Values → Tried Values
+taken m = record { cuts = 0; body = Some m }
+
+abbrev pub select : {A : Type 0} → Bool → A → A → A
+select true a b = a
+select false a b = b
+
+-- a guard with this result, before two trees: it holds where it gives the atom true
+abbrev pub if_holds : State × Outcome Values → Tried Values → Tried Values → Tried Values
+if_holds r a b = and_cuts (subs r.0.notes) (select (is_true r.1) a b)
+
+abbrev pub if_parts : Option Values → (Values → Tried Values) → Tried Values → Tried Values
+if_parts None f rest = rest
+if_parts (Some vs) f rest = f vs
+
+-- segments that match these bits, before further rows
+abbrev pub if_match : List ℕ → Segs → Env → List Bool → (Env → Tried Values) → Tried Values → Tried Values
+if_match hs ss env bs f rest =
+    and_cuts (seg_cuts hs ss env bs) (elim (match_segs ss env bs) [ None ↦ rest | Some xs ↦ f (with_bindings env xs) ])
+
+abbrev pub after_step : Stepped → (Env → Rests → Tried Values) → (Rests → Tried Values) → Tried Values
+after_step z f g = and_cuts z.cuts (elim z.bound [ None ↦ g z.rests | Some env ↦ f env z.rests ])
+
+-- a match takes a row; that it does is part of being well formed
+abbrev pub or_stuck : Option (M Values) → M Values
+or_stuck None = fail T.error (clause_reason [])
+or_stuck (Some m) = m
+
+abbrev pub matched : Tried Values → M Values
+matched t = cutting t.cuts (or_stuck t.body)
+
+-- whether a let binds a call to a variable whose reference marks some receive
+abbrev pub is_marked : Setting → List ℕ → Expr → Bool
+is_marked w (x ∷ []) (simple (remote m f vs)) = is_reference w.marks x
+is_marked w _ _ = false
+
+-- the reference that a receive waits for, where it is marked
+abbrev pub awaited : Setting → ℕ → Env → Option Term
+awaited w n env = elim (reference_of w.marks n) [ None ↦ None | Some x ↦ Some (env x) ]
+
+module _ (w : Setting) (here : Here) where
+  unfoldable mutual
+    unfolding simply parts_of bin_step same_term
+
+    -- from left to right; tail: whether it stands in tail position
+    pub meaning : Expr → Env → Bool → M Values
+    meaning (values vs) env tail = give (read_all env vs)
+    meaning (simple s) env tail = simply w here s env tail
+    meaning (let_in xs a b) env tail =
+        marking (is_marked w xs a) (meaning a env false) >>= λ vs. meaning b (with_values env xs vs) tail
+    meaning (match_in t) env tail = matched (tree t env no_rests tail no_falls)
+    meaning (try a xs b ys c) env tail =
+        either (meaning a env false)
+        (λ vs. meaning b (with_values env xs vs) tail)
+        (λ k r. meaning c (with_values env ys (class_word k ∷ r ∷ T.raw_trace k ∷ [])) tail)
+    meaning (catch a) env tail = either (meaning a env false) give exit_of
+    meaning (receive n x t v b) env tail =
+        beginning (awaited w n env)
+        (receiving (λ m. tree t (with_value env x m) no_rests tail no_falls) (timeout_of (read env v)) (meaning b env tail))
+
+    -- what the taken row does, if one is taken
+    pub tree : Tree → Env → Rests → Bool → Falls → Tried Values
+    tree (body e) env r tail fs = taken (meaning e env tail)
+    tree (fall k) env r tail fs = fs k r
+    tree (either_in k a b) env r tail fs = tree a env r tail (with_fall fs k (λ q. tree b env q tail fs))
+    tree (switch x cs t) env r tail fs = cases cs (env x) env r tail fs (tree t env r tail fs)
+    tree (segments x rs t) env r tail fs = rows rs (env x) env r tail fs (tree t env r tail fs)
+    tree (step z a b) env r tail fs =
+        after_step (bin_step w z env r) (λ e q. tree a e q tail fs) (λ q. tree b env q tail fs)
+    tree (guarded g a b) env r tail fs =
+        if_holds (meaning g env false blank) (tree a env r tail fs) (tree b env r tail fs)
+
+    -- the first case whose shape the term has
+    pub cases : Cases → Term → Env → Rests → Bool → Falls → Tried Values → Tried Values
+    cases no_case u env r tail fs rest = rest
+    cases (and_case (case h xs t) cs) u env r tail fs rest =
+        if_parts (parts_of h env u) (λ vs. tree t (with_values env xs vs) r tail fs) (cases cs u env r tail fs rest)
+
+    -- the first row whose segments match
+    pub rows : SegRows → Term → Env → Rests → Bool → Falls → Tried Values → Tried Values
+    rows (and_row (seg_row ss t) rs) (T.bits bs) env r tail fs rest =
+        if_match w.handed ss env bs (λ e. tree t e r tail fs) (rows rs (T.bits bs) env r tail fs rest)
+    rows _ u env r tail fs rest = rest
+
+-- what clauses do with values: the first whose patterns match and whose guard holds
+unfoldable pub clauses : Setting → Here → List Row → Values → Env → Bool → Tried Values
+unfolding meaning same_term
+clauses w here [] vs env tail = none_tried
+clauses w here (x ∷ xs) vs env tail =
+    and_cuts (all_cuts w.handed env x.patterns (terms vs))
+    (elim (match_all env x.patterns (terms vs)) [
+      | None ↦ clauses w here xs vs env tail
+      | Some bs ↦
+          let e = with_bindings env bs in
+          if_holds (meaning w here x.guard e false blank) (taken (meaning w here x.body e tail)) (clauses w here xs vs env tail)
+    ])
+
+-- what a function does with arguments, whatever the other functions are
+unfoldable pub fun_does : Setting → Fun → Body
+unfolding meaning
+fun_does w f here vs = one (meaning w here f.body (with_values no_values f.params vs) true) give
+
+-- Modules.
+
+abbrev pub widths : List Fun → List ℕ
+widths fs = map (λ f. length f.params) fs
+
+unfoldable pub module_bodies : Setting → List Fun → Bodies
+unfolding fun_does
+module_bodies w fs n = elim (slice_get fs n) as (λ _. Body) [
+  | None ↦ λ here vs. fail T.error (word (codes "undef"))
+  | Some f ↦ fun_does w f
+]
+
+abbrev pub site_of : List Fun → FunKey → ℕ
+site_of [] k = 0
+site_of (f ∷ fs) k = if same_key f.key k then f.site else site_of fs k
+
+-- what a call of an export does, with at most n entries
+unfoldable pub kernel_run : Setting → Kernel → FunKey → Values → Script → ℕ → Result
+unfolding entered_deep module_bodies serial_of unbound
+kernel_run w k f vs x n =
+    ended x.choices (entered_deep k.name x.own (module_bodies w k.funs) (suc n) (site_of k.funs f) vs (start x n))

@@ -1,0 +1,9 @@
+pub mod Environment
+pub mod PatternMatch
+pub mod Steps
+pub mod KernelRun
+pub mod Agreement
+pub mod Walks
+pub mod Windows
+pub mod KernelPredicate
+pub mod TreeContract

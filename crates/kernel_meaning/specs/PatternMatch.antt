@@ -1,0 +1,117 @@
+-- When a pattern matches a term, what it binds, and how many sub-binaries the trying may make (Core Erlang 1.0.3,
+-- section 5: pattern matching; binaries as OTP 25; the count is this project's own).
+use Rattle.std.specs.Prelude.{ℕ, ◌+◌, List, [], ◌∷◌, ◌++◌, length, take, drop, Bool, not, ◌&&◌, eqb, Option, Some, None, if◌then◌else◌}
+use Rattle.erl_term.specs.Term as T
+use Rattle.erl_term.specs.Term.{Term, Terms, none, more, Pairs}
+use Rattle.erl_term.specs.TermOrder.{same_term, count}
+use Rattle.erl_term.specs.Terms.{value_at}
+use Rattle.erl_term.specs.Segments.{Shape, taken_size, segment_value}
+use Rattle.kernel_form.specs.Kernel.{Pattern, any, bind, known, cons_like, tuple_like, map_like, bits_like, alias, Patterns, no_pattern, and_pattern, key_pattern, KeyPatterns, no_key, and_key, seg, Segs, no_seg, and_seg}
+use Rattle.kernel_meaning.specs.Environment.{Env, with_value, read, among}
+
+abbrev pub Bindings : Type 0
+Bindings = List (ℕ × Term)
+
+abbrev pub with_bindings : Env → Bindings → Env
+with_bindings env [] = env
+with_bindings env (b ∷ bs) = with_bindings (with_value env b.0 b.1) bs
+
+-- what is bound by two parts
+abbrev pub both : Option Bindings → Option Bindings → Option Bindings
+both None b = None
+both (Some xs) None = None
+both (Some xs) (Some ys) = Some (xs ++ ys)
+
+abbrev pub also : ℕ → Term → Option Bindings → Option Bindings
+also x t None = None
+also x t (Some xs) = Some ((x, t) ∷ xs)
+
+abbrev pub if_there : {A : Type 0} → Option Term → A → (Term → A) → A
+if_there None a f = a
+if_there (Some t) a f = f t
+
+-- a segment's value is anything, a variable or a literal
+abbrev pub match_segment : Pattern → Term → Option Bindings
+match_segment any t = Some []
+match_segment (bind x) t = Some ((x, t) ∷ [])
+match_segment (known u) t = if same_term u t then Some [] else None
+match_segment _ t = None
+
+-- what later sizes of the same binary see
+abbrev pub with_segment : Env → Pattern → Term → Env
+with_segment env (bind x) t = with_value env x t
+with_segment env _ t = env
+
+abbrev pub match_segs : Segs → Env → List Bool → Option Bindings
+match_segs no_seg env [] = Some []
+match_segs no_seg env (b ∷ bs) = None
+match_segs (and_seg (seg q v h) ss) env bs =
+    elim (taken_size h (Some (read env v)) (length bs)) [
+      | None ↦ None
+      | Some n ↦
+          let t = segment_value h (take n bs) in
+          both (match_segment q t) (match_segs ss (with_segment env q t) (drop n bs))
+    ]
+
+-- keys and sizes are read outside the pattern, but for a size that an earlier segment of its binary binds
+module _ (env : Env) where
+  abbrev mutual
+    pub matches : Pattern → Term → Option Bindings
+    matches any t = Some []
+    matches (bind x) t = Some ((x, t) ∷ [])
+    matches (known u) t = if same_term u t then Some [] else None
+    matches (cons_like p q) (T.cons x y) = both (matches p x) (matches q y)
+    matches (tuple_like ps) (T.tuple ts) = match_all ps ts
+    matches (map_like ks) (T.map ps) = match_keys ks ps
+    matches (bits_like ss) (T.bits bs) = match_segs ss env bs
+    matches (alias x q) t = also x t (matches q t)
+    matches _ t = None
+
+    pub match_all : Patterns → Terms → Option Bindings
+    match_all no_pattern none = Some []
+    match_all no_pattern (more t ts) = None
+    match_all (and_pattern q qs) none = None
+    match_all (and_pattern q qs) (more t ts) = both (matches q t) (match_all qs ts)
+
+    pub match_keys : KeyPatterns → Pairs → Option Bindings
+    match_keys no_key ps = Some []
+    match_keys (and_key (key_pattern v q) ks) ps = both (if_there (value_at ps (read env v)) None (λ t. matches q t)) (match_keys ks ps)
+
+-- A segment of bits that is bound to a variable is made as a sub-binary, unless the variable is handed on.
+
+abbrev pub made : List ℕ → Shape → Pattern → ℕ
+made hs h (bind x) = if h.is_binary && not (among x hs) then 1 else 0
+made hs h _ = 0
+
+abbrev pub pattern_count : Patterns → ℕ
+pattern_count no_pattern = 0
+pattern_count (and_pattern q qs) = 1 + pattern_count qs
+
+module _ (hs : List ℕ) where
+  abbrev pub seg_cuts : Segs → Env → List Bool → ℕ
+  seg_cuts no_seg env bs = 0
+  seg_cuts (and_seg (seg q v h) ss) env bs =
+      elim (taken_size h (Some (read env v)) (length bs)) [
+        | None ↦ 0
+        | Some n ↦
+            let t = segment_value h (take n bs) in
+            made hs h q + (elim (match_segment q t) [ None ↦ 0 | Some xs ↦ seg_cuts ss (with_segment env q t) (drop n bs) ])
+      ]
+
+  module _ (env : Env) where
+    abbrev mutual
+      pub cuts : Pattern → Term → ℕ
+      cuts (cons_like p q) (T.cons x y) = cuts p x + cuts q y
+      cuts (tuple_like ps) (T.tuple ts) = if eqb (pattern_count ps) (count ts) then all_cuts ps ts else 0
+      cuts (map_like ks) (T.map ps) = key_cuts ks ps
+      cuts (bits_like ss) (T.bits bs) = seg_cuts ss env bs
+      cuts (alias x q) t = cuts q t
+      cuts _ t = 0
+
+      pub all_cuts : Patterns → Terms → ℕ
+      all_cuts (and_pattern q qs) (more t ts) = cuts q t + all_cuts qs ts
+      all_cuts _ _ = 0
+
+      pub key_cuts : KeyPatterns → Pairs → ℕ
+      key_cuts no_key ps = 0
+      key_cuts (and_key (key_pattern v q) ks) ps = if_there (value_at ps (read env v)) 0 (λ t. cuts q t) + key_cuts ks ps

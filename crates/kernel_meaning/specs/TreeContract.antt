@@ -1,0 +1,35 @@
+-- The contracts of passes over decision trees: the new tree takes the same row, and does the same with it.
+use Rattle.std.specs.Prelude.{◌≤◌, ◌*◌, ℕ, List, map, length, Bool}
+use Rattle.erl_base.specs.Names.{Name}
+use Rattle.erl_term.specs.Term.{Term}
+use Rattle.erl_term.specs.Terms.{Values}
+use Rattle.world_model.specs.Run.{M}
+use Rattle.step_machine.specs.Bodies.{Here}
+use Rattle.kernel_form.specs.Kernel.{Tree, Row, var, match_in}
+use Rattle.kernel_meaning.specs.Environment.{Env, no_rests, read_all, Setting}
+use Rattle.kernel_meaning.specs.KernelRun.{no_falls, tree, clauses}
+use Rattle.pass_contract.specs.SameRun.{EntersAgree}
+use Rattle.pass_contract.specs.PassContract.{IsLeft}
+use Rattle.kernel_meaning.specs.Agreement.{TriedAgrees}
+use Rattle.kernel_meaning.specs.Walks.{binders, receives, let_calls}
+
+abbrev pub here_of : Name → Term → (ℕ → Values → M Term) → Here
+here_of name own f = record { name = name; own = own; enter = f }
+
+-- a whole tree, whose falls without an alternative take no row
+abbrev pub TreeAgrees : Tree → Tree → Type 0
+TreeAgrees old new =
+    (w : Setting) (name : Name) (own : Term) (f g : ℕ → Values → M Term) → EntersAgree f g → (env : Env) (tail : Bool) →
+    TriedAgrees (tree w (here_of name own f) old env no_rests tail no_falls) (tree w (here_of name own g) new env no_rests tail no_falls)
+
+-- a tree does what clauses do with the values of these variables
+abbrev pub TreeTakesRows : List ℕ → List Row → Tree → Type 0
+TreeTakesRows places xs new =
+    (w : Setting) (name : Name) (own : Term) (f g : ℕ → Values → M Term) → EntersAgree f g → (env : Env) (tail : Bool) →
+    TriedAgrees (clauses w (here_of name own f) xs (read_all env (map var places)) env tail) (tree w (here_of name own g) new env no_rests tail no_falls)
+
+pub record TreeKeeps (nodes : ℕ) (old new : Tree) : Type 0 where
+  pub agrees : TreeAgrees old new
+  pub receives : IsLeft (receives (match_in old)) (receives (match_in new))
+  pub calls : IsLeft (let_calls (match_in old)) (let_calls (match_in new))
+  pub variables : length (binders (match_in old)) ≤ 3 * nodes → length (binders (match_in new)) ≤ 3 * nodes
