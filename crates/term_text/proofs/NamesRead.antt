@@ -11,7 +11,7 @@ use Rattle.core_lex.specs.Characters.{first_is}
 use Rattle.core_lex.specs.Escapes.{quoted_char}
 use Rattle.core_lex.specs.Tokens.{quoted_text}
 use Rattle.core_lex.proofs.Quoting.{behind, passed_over}
-use Rattle.term_text.specs.Atoms.{is_small, is_within, is_name_character, is_word, is_kept, is_plain_name, kept_words, quoted_character, quoted_characters, atom_text}
+use Rattle.term_text.specs.Atoms.{is_small, is_within, is_name_character, is_kept, is_plain_name, kept_words, quoted_character, quoted_characters, atom_text}
 use Rattle.term_text.specs.Lexemes.{is_blank, behind_blanks, blanks_skipped, run_of, word_front, unquoted, quoted_rest, no_fun, name_front}
 use Rattle.term_text.specs.Printed.{Ends}
 use Rattle.std.proofs.lemmas.Fmt.{hex_one_digit, hex_two_digits}
@@ -63,10 +63,10 @@ plain_read : (a r : List ℕ) → Ends r → is_plain_name a ≡ true → (behin
 unfolding behind_blanks
 plain_read [] r h e = absurd cc
 plain_read (c ∷ cs) r h e =
-    let word : IsTrue (is_word (c ∷ cs)) = left_true (is_word (c ∷ cs)) (not (is_kept (c ∷ cs))) e in
+    let word : IsTrue (is_small c && list_all is_name_character cs) = left_true (is_small c && list_all is_name_character cs) (not (is_kept (c ∷ cs))) e in
     let small : is_small c ≡ true = left_true (is_small c) (list_all is_name_character cs) word in
     let names : IsTrue (list_all is_name_character (c ∷ cs)) = both_true (is_name_character c) (list_all is_name_character cs) (small_name c small) (right_true (is_small c) (list_all is_name_character cs) word) in
-    let kept : is_kept (c ∷ cs) ≡ false = not_true (is_kept (c ∷ cs)) (right_true (is_word (c ∷ cs)) (not (is_kept (c ∷ cs))) e) in
+    let kept : is_kept (c ∷ cs) ≡ false = not_true (is_kept (c ∷ cs)) (right_true (is_small c && list_all is_name_character cs) (not (is_kept (c ∷ cs))) e) in
     let no_blank : is_blank c ≡ false = grind (arith, nat_tests, small) in
     let no_comment : eqb c 37 ≡ false = grind (arith, nat_tests, small) in
     let no_quote : eqb c 39 ≡ false = grind (arith, nat_tests, small) in (

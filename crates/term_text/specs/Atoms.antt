@@ -23,17 +23,13 @@ is_small c = is_within 97 122 c
 abbrev pub is_name_character : ℕ → Bool
 is_name_character c = is_small c || is_within 65 90 c || is_within 48 57 c || c == 95 || c == 64
 
--- what begins with a small letter and goes on with name characters
-abbrev pub is_word : Name → Bool
-is_word [] = false
-is_word (c ∷ cs) = is_small c && list_all is_name_character cs
-
 abbrev pub is_kept : Name → Bool
 is_kept a = list_any (λ w. same_name w a) kept_words
 
--- an atom that is written without quotes
+-- an atom that is written without quotes: it begins with a small letter, goes on with name characters, and is no kept word
 abbrev pub is_plain_name : Name → Bool
-is_plain_name a = is_word a && not (is_kept a)
+is_plain_name [] = false
+is_plain_name (c ∷ cs) = is_small c && list_all is_name_character cs && not (is_kept (c ∷ cs))
 
 -- a character between quotes: `\\`, `\'`, `\x{H}` in lower-case hexadecimal for control characters, or itself
 abbrev pub quoted_character : ℕ → List ℕ

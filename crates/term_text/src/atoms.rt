@@ -1,7 +1,7 @@
 ghost use Rattle.std.specs.Prelude.{◌≡◌, ◌++◌, IfOk, OnOk};
 ghost use Rattle.std.specs.List.{list_all, list_any};
 ghost use Rattle.erl_base.specs.Names.{same_name};
-ghost use Rattle.term_text.specs.Atoms.{is_small, is_name_character, is_word, is_kept, is_plain_name, quoted_character, quoted_characters, atom_text};
+ghost use Rattle.term_text.specs.Atoms.{is_small, is_name_character, is_kept, is_plain_name, quoted_character, quoted_characters, atom_text};
 ghost use Rattle.term_text.specs.Printing.{Adds};
 
 use crate::bytes::{push_bytes, push_plain};
@@ -38,15 +38,11 @@ fn push_atom(alloc: Global, out: &mut Text, name: &Name) -> Result<(), NoMemory>
 pub fn is_plain_name(name: &[char]) -> bool
     ensures { result ≡ is_plain_name name.now }
 {
-    is_word(name) && !is_kept(name)
-}
-
-fn is_word(name: &[char]) -> bool
-    ensures { result ≡ is_word name.now }
-{
     match name {
         [] => false,
-        [first, others @ ..] => is_small(*first) && are_name_characters(others),
+        [first, others @ ..] => {
+            is_small(*first) && are_name_characters(others) && !is_kept(name)
+        }
     }
 }
 
