@@ -1,22 +1,5 @@
 pub mod Digits
 pub mod Growth
 mod Names
-mod BitText
+pub mod BitText
 mod ListText
-mod Integers
-pub mod Shorter
-pub mod ItemRows
-pub mod MapRuns
-mod PartBits
-pub mod Deciding
-mod PartRows
-mod WellRows
-pub mod Consuming
-pub mod FunForm
-pub mod FormSound
-pub mod FormComplete
-mod OneTerm
-pub mod NumbersRead
-pub mod NamesRead
-pub mod TermsRead
-pub mod BitsRead

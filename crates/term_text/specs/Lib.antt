@@ -2,10 +2,3 @@ pub mod Decimal
 pub mod Atoms
 pub mod TermText
 pub mod Printing
-pub mod Lexemes
-pub mod TermGrammar
-pub mod WellRead
-pub mod Merging
-pub mod Reading
-pub mod WholeText
-pub mod Printed

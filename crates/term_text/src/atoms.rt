@@ -52,13 +52,15 @@ fn are_name_characters(characters: &[char]) -> bool
     characters.iter().all(|c| is_name_character(*c))
 }
 
-pub(crate) fn is_small(c: char) -> bool
+/// Whether it is a to z.
+pub fn is_small(c: char) -> bool
     ensures { result ≡ is_small c }
 {
     c.is_ascii_lowercase()
 }
 
-pub(crate) fn is_name_character(c: char) -> bool
+/// Whether it is an ASCII letter, a digit, `_` or `@`.
+pub fn is_name_character(c: char) -> bool
     ensures { result ≡ is_name_character c }
 {
     c.is_ascii_lowercase() || c.is_ascii_uppercase() || c.is_ascii_digit() || c == '_' || c == '@'
@@ -81,8 +83,9 @@ fn is_among(words: &[&[u8]], name: &[char]) -> bool
     false
 }
 
+/// Whether the characters are those of the word.
 #[tactic(auto, using(crate::proofs::Names::names))]
-pub(crate) fn is_same(word: &[u8], name: &[char]) -> bool
+pub fn is_same(word: &[u8], name: &[char]) -> bool
     ensures { result ≡ same_name word.now name.now }
 {
     if word.len() != name.len() {

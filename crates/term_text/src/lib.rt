@@ -1,40 +1,17 @@
-//! Terms as text: the printed text of a term, and the term of a text. It sees no forms of an assembly, and no places.
+//! The printed text of a term, and of the atoms and numbers in it. It sees no forms of an assembly, and reads nothing.
 //!
-//! `[1,"a"|#{}]` is read as a list of two items with a map behind the bar, and printed as `[1,[97]|#{}]`.
+//! A list of 1 and of the string `a`, with a map behind the bar, is printed as `[1,[97]|#{}]`.
 //!
-//! Both go through the characters once. Each call of the reader is given the characters that are left, and gives a term and
-//! those behind it; each equals one function of `specs/Reading.antt`, and these functions decide the relations of
-//! `specs/TermGrammar.antt`. The catch: the tail of a list is read one level deeper, and its items then join the list.
-//!
-//! The pairs of a map are put in order by merging runs. A list in a tail is moved once for each bar before it.
-//!
-//! Memory may be refused at any time: bodies that always answer `NoMemory` meet the contracts, and the tests run each call with
-//! ample memory.
+//! Memory may be refused at any time: bodies that always answer `NoMemory` meet the contracts, and the tests of `term_read` run
+//! each call with ample memory.
 #![tactic(auto)]
 
 mod atoms;
 mod bits;
-mod bitstrings;
 mod bytes;
-mod flat;
-mod laws;
-mod leaves;
-mod lexemes;
-mod lists;
-mod maps;
 mod numbers;
-mod read;
-mod reader;
-#[cfg(test)]
-mod tests;
-mod unread;
 mod write;
 
-pub use atoms::{is_plain_name, put_atom};
-pub use flat::{FunHead, Part};
-pub use laws::{printed_terms_are_read, reading_decides_the_grammar, text_has_one_term};
+pub use atoms::{is_name_character, is_plain_name, is_same, is_small, put_atom};
 pub use numbers::{put_integer, put_number, put_u32};
-pub use read::read_at;
-pub use reader::read_term;
-pub use unread::Unread;
 pub use write::write_term;

@@ -1,0 +1,32 @@
+//! The term of a text: what `term_text` prints of a term, and its other spellings. It sees no forms of an assembly, and no places.
+//!
+//! `[1,"a"|#{}]` is read as a list of two items with a map behind the bar.
+//!
+//! The characters are gone through once. Each call is given those that are left, and gives a term and those behind it; each
+//! equals one function of `specs/Reading.antt`, and these functions decide the relations of `specs/TermGrammar.antt`. The catch:
+//! the tail of a list is read one level deeper, and its items then join the list.
+//!
+//! The pairs of a map are put in order by merging runs. A list in a tail is moved once for each bar before it.
+//!
+//! Memory may be refused at any time: bodies that always answer `NoMemory` meet the contracts, and the tests run each call with
+//! ample memory.
+#![tactic(auto)]
+
+mod bitstrings;
+mod flat;
+mod laws;
+mod leaves;
+mod lexemes;
+mod lists;
+mod maps;
+mod read;
+mod reader;
+#[cfg(test)]
+mod tests;
+mod unread;
+
+pub use flat::{FunHead, Part};
+pub use laws::{printed_terms_are_read, reading_decides_the_grammar, text_has_one_term};
+pub use read::read_at;
+pub use reader::read_term;
+pub use unread::Unread;
