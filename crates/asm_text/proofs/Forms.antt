@@ -7,21 +7,25 @@ use Rattle.beam_table.specs.declared.asm.AsmFun.{AsmFun}
 use Rattle.beam_table.specs.declared.insn.Insn.{Insn}
 use Rattle.beam_table.specs.View.{insn_view, fun_view}
 use Rattle.beam_table.specs.ValidModule.{every, all_labels, labels_in}
-use Rattle.asm_text.specs.AssemblyText.{term_on, rest_on, key_term, code_on, insn_on, head_on, funs_on, greatest, insn_has_text, fun_has_text, is_plain_name}
-use Rattle.asm_text.specs.Printing.{Adds}
+use Rattle.term_text.specs.Atoms.{is_plain_name}
+use Rattle.term_text.specs.TermText.{term_on, rest_on}
+use Rattle.term_text.specs.Printing.{Adds}
+use Rattle.asm_text.specs.AssemblyText.{key_term, code_on, insn_on, head_on, funs_on, greatest, insn_has_text, fun_has_text}
+use Rattle.asm_text.proofs.Rows.{rest_on-nil, rest_on-cons}
 
 pub other_added : (ks others : List FunKey) (k : FunKey) (old mid new : List ℕ) (start : List ℕ → List ℕ) → ks ≡ k ∷ others
     → Adds old mid (λ r. codes "," ++ r) → Adds mid new (term_on (key_term k))
     → ((r : List ℕ) → old ++ rest_on (list_of (map key_term ks) T.nil) r ≡ start r)
     → (r : List ℕ) → new ++ rest_on (list_of (map key_term others) T.nil) r ≡ start r
 other_added ks others k old mid new start e f g h r =
-    g _ ∙ f _ ∙ sym (ap (λ l. old ++ rest_on (list_of (map key_term l) T.nil) r) e) ∙ h r
+    g _ ∙ f _ ∙ ap (λ x. old ++ x) (sym (rest_on-cons (key_term k) (list_of (map key_term others) T.nil) r))
+    ∙ sym (ap (λ l. old ++ rest_on (list_of (map key_term l) T.nil) r) e) ∙ h r
 
 -- no other is left
 pub no_other : (ks : List FunKey) (old : List ℕ) (start : List ℕ → List ℕ) → ks ≡ []
     → ((r : List ℕ) → old ++ rest_on (list_of (map key_term ks) T.nil) r ≡ start r)
     → (r : List ℕ) → old ++ (codes "]" ++ r) ≡ start r
-no_other ks old start e h r = sym (ap (λ l. old ++ rest_on (list_of (map key_term l) T.nil) r) e) ∙ h r
+no_other ks old start e h r = ap (λ x. old ++ x) (sym (rest_on-nil r)) ∙ sym (ap (λ l. old ++ rest_on (list_of (map key_term l) T.nil) r) e) ∙ h r
 
 greatest-append : (ks ls : List ℕ) → greatest (ks ++ ls) ≡ max (greatest ks) (greatest ls)
 greatest-append [] ls = omega arith

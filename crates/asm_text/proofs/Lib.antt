@@ -1,4 +1,4 @@
-pub mod Digits
+pub mod Rows
 pub mod Growth
 pub mod Forms
 pub mod Unique

@@ -1,50 +1,18 @@
 -- The text of an assembly module, and the module that a text has. A text is a sequence of forms, each a term and a
--- full stop, one on a line. Each definition that ends in `_on` gives the characters of its subject, and then `r`.
-use Rattle.std.specs.Prelude.{◌≡◌, ℕ, ℤ, pos, negsuc, zero, suc, ◌+◌, ◌/◌, ◌%◌, max, List, [], ◌∷◌, ◌++◌, map, Bool, true, false, not, ◌&&◌, ◌||◌, eqb, leb, ltb, IsTrue, codes, encode_utf8_all}
-use Rattle.erl_base.specs.Names.{Name, same_name}
+-- full stop, one on a line; the text of a term is term_text's. What ends in `_on` gives the characters of its subject,
+-- and then `r`.
+use Rattle.std.specs.Prelude.{◌≡◌, ℕ, ◌+◌, max, List, [], ◌∷◌, ◌++◌, map, Bool, true, false, ◌&&◌, IsTrue, codes, encode_utf8_all}
+use Rattle.erl_base.specs.Names.{Name}
 use Rattle.erl_base.specs.declared.ids.FunKey.{FunKey}
 use Rattle.erl_term.specs.Term as T
-use Rattle.erl_term.specs.Term.{Term, Terms, none, more}
+use Rattle.erl_term.specs.Term.{Term}
 use Rattle.erl_term.specs.Terms.{terms, list_of}
+use Rattle.term_text.specs.Atoms.{is_plain_name}
+use Rattle.term_text.specs.TermText.{term_on}
 use Rattle.beam_table.specs.Code as C
 use Rattle.beam_table.specs.Code.{Source, reg, Insn, move, return, AsmFun, AsmModule}
 use Rattle.beam_table.specs.InstructionText.{number, tagged, form}
 use Rattle.beam_table.specs.ValidModule.{every, all_labels, Valid}
-
--- Terms.
-
--- the decimal digits of n, at most as many as is said
-abbrev pub digits_on : ℕ → ℕ → List ℕ → List ℕ
-digits_on zero n r = r
-digits_on (suc k) n r = elim (ltb n 10) [ true ↦ (48 + n) ∷ r | false ↦ digits_on k (n / 10) ((48 + n % 10) ∷ r) ]
-
-unfoldable pub decimal_on : ℕ → List ℕ → List ℕ
-decimal_on n r = digits_on (suc n) n r
-
-abbrev pub integer_on : ℤ → List ℕ → List ℕ
-integer_on (pos n) r = decimal_on n r
-integer_on (negsuc n) r = codes "-" ++ decimal_on (suc n) r
-
--- a term; what stands behind an item of a list; the items of a tuple. The terms without a row join as they are
--- written: an atom in quotes, a list with a tail, a map, bits, a fun, an identifier, a raw trace.
-abbrev mutual
-  pub term_on : Term → List ℕ → List ℕ
-  term_on (T.int z) r = integer_on z r
-  term_on (T.atom a) r = a ++ r
-  term_on T.nil r = codes "[]" ++ r
-  term_on (T.cons t u) r = codes "[" ++ term_on t (rest_on u r)
-  term_on (T.tuple ts) r = codes "{" ++ items_on ts (codes "}" ++ r)
-  term_on _ r = r
-
-  pub rest_on : Term → List ℕ → List ℕ
-  rest_on T.nil r = codes "]" ++ r
-  rest_on (T.cons t u) r = codes "," ++ term_on t (rest_on u r)
-  rest_on _ r = r
-
-  pub items_on : Terms → List ℕ → List ℕ
-  items_on none r = r
-  items_on (more t none) r = term_on t r
-  items_on (more t ts) r = term_on t (codes "," ++ items_on ts r)
 
 -- Forms.
 
@@ -101,20 +69,6 @@ unfoldable pub printed : AsmModule → List ℕ
 printed a = first_on a (funs_on a.name a.funs [])
 
 -- Modules that have a text today. Other instructions and names, and attributes, join as the compiler writes them.
-
-abbrev pub is_lower : ℕ → Bool
-is_lower c = leb 97 c && leb c 122
-
-abbrev pub is_name_char : ℕ → Bool
-is_name_char c = is_lower c || (leb 65 c && leb c 90) || (leb 48 c && leb c 57) || eqb c 95 || eqb c 64
-
-abbrev pub kept_words : List Name
-kept_words = codes "after" ∷ codes "and" ∷ codes "andalso" ∷ codes "band" ∷ codes "begin" ∷ codes "bnot" ∷ codes "bor" ∷ codes "bsl" ∷ codes "bsr" ∷ codes "bxor" ∷ codes "case" ∷ codes "catch" ∷ codes "cond" ∷ codes "div" ∷ codes "else" ∷ codes "end" ∷ codes "fun" ∷ codes "if" ∷ codes "let" ∷ codes "maybe" ∷ codes "not" ∷ codes "of" ∷ codes "or" ∷ codes "orelse" ∷ codes "receive" ∷ codes "rem" ∷ codes "try" ∷ codes "when" ∷ codes "xor" ∷ []
-
--- an atom that is written without quotes
-abbrev pub is_plain_name : Name → Bool
-is_plain_name [] = false
-is_plain_name (c ∷ cs) = is_lower c && every is_name_char cs && every (λ k. not (same_name k (c ∷ cs))) kept_words
 
 abbrev pub source_has_text : Source → Bool
 source_has_text (reg r) = true

@@ -1,3 +1,2 @@
 pub mod AssemblyText
-pub mod Printing
 pub mod Examples

@@ -1,7 +1,8 @@
 ghost use Rattle.std.specs.Prelude.{◌≡◌, IfOk, IsTrue, chars, map};
 ghost use Rattle.beam_table.specs.View.{source_view, fun_view, module_view};
 ghost use Rattle.beam_table.specs.ValidModule.{every};
-ghost use Rattle.asm_text.specs.AssemblyText.{is_plain_name, source_has_text, fun_has_text, HasText};
+ghost use Rattle.term_text.specs.Atoms.{is_plain_name};
+ghost use Rattle.asm_text.specs.AssemblyText.{source_has_text, fun_has_text, HasText};
 
 use crate::{encoded, print};
 use beam_table::{AsmFun, AsmFuns, AsmModule, FunKeys, Insn, Insns, Reg, Source};

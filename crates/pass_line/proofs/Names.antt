@@ -1,5 +1,5 @@
 -- Equal names, and names of equal characters.
-use Rattle.std.proofs.Common.{◌≡◌, List, ℕ, Bool, chars, IsUtf8, bytes_eq, sym, ap, ◌∙◌, rules, ◌&&◌, [], ◌∷◌, true, false, length, ◌≢◌, refl, IsTrue, ◌↔◌}
+use Rattle.std.proofs.Common.{◌≡◌, List, ℕ, Bool, chars, IsUtf8, bytes_eq, sym, ap, ◌∙◌, rules, ◌&&◌, [], ◌∷◌, true, false, IsTrue, ◌↔◌}
 use Rattle.std.specs.Bool.{Decides}
 use Rattle.std.proofs.lemmas.Bool.Decides.{same_from_decides}
 use Rattle.std.proofs.lemmas.Slice.Eq.{bytes_eq-Decides, compares_Decides}
@@ -32,14 +32,6 @@ bytes_eq-same_name r a b x u v s e f =
     same_from_decides r (same_name x b)
     (λ t. sym f ∙ ap chars ((bytes_eq-Decides a b).0 (sym e ∙ t)) ∙ c, λ d. e ∙ (bytes_eq-Decides a b).1 (chars_one a b u v (f ∙ d ∙ sym c)))
     (same_name-Decides x b)
-
--- names of different lengths differ
-pub same_name-length : (x y : List ℕ) → length x ≢ length y → same_name x y ≡ false
-same_name-length x y h = by (same_name x y) refl
-  where
-    by : (b : Bool) → same_name x y ≡ b → same_name x y ≡ false
-    by true e = absurd (h (ap length ((same_name-Decides x y).0 e)))
-    by false e = e
 
 pub same_name-told : (r : Bool) (x y : List ℕ) → IsTrue r ↔ (x ≡ y) → r ≡ same_name x y
 same_name-told r x y h = same_from_decides r (same_name x y) (λ t. h.0 (search (rules, t)), λ e. search (rules, h.1 e)) (same_name-Decides x y)

@@ -3,12 +3,12 @@ use Rattle.std.specs.Prelude.{◌≡◌, List, [], ◌∷◌, ◌++◌, map, Boo
 use Rattle.erl_base.specs.Names.{Name, same_name}
 use Rattle.erl_base.specs.declared.ids.FunKey.{FunKey}
 use Rattle.erl_term.specs.Term.{Term, int, atom}
+use Rattle.term_text.specs.Atoms.{is_plain_name}
 use Rattle.core_form.specs.declared.tree.Binder.{Binder}
 use Rattle.core_form.specs.declared.module.FunName.{FunName}
 use Rattle.core_form.specs.Core.{Expr, literal, var, fun, Def, Defs, no_def, and_def, def, Module}
 use Rattle.beam_table.specs.TextRange.{in_signed}
 use Rattle.beam_table.specs.ValidModule.{every, is_key, keys_distinct}
-use Rattle.asm_text.specs.AssemblyText.{is_plain_name}
 
 -- an atom that is written without quotes, of at most 255 characters
 abbrev pub is_plain_atom : Name → Bool

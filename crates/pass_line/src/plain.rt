@@ -1,11 +1,9 @@
 // Which modules are plain.
-ghost use Rattle.std.specs.Prelude.{◌≡◌, ◌↔◌, [], map, not, true, false, IfOk, MatchOption, IsTrue};
+ghost use Rattle.std.specs.Prelude.{◌≡◌, ◌↔◌, [], map, true, false, IfOk, MatchOption, IsTrue};
 ghost use Rattle.erl_base.specs.Names.{same_name};
 ghost use Rattle.erl_term.specs.View as Terms;
 ghost use Rattle.core_form.specs.View.{view, def_view, defs, module_view};
 ghost use Rattle.beam_table.specs.TextRange.{in_signed};
-ghost use Rattle.beam_table.specs.ValidModule.{every};
-ghost use Rattle.asm_text.specs.AssemblyText.{kept_words, is_lower, is_name_char, is_plain_name};
 ghost use Rattle.pass_line.specs.PlainModule.{is_plain_atom, is_bound, are_distinct, is_plain_literal, is_plain_body, is_plain_def, are_plain, keys_of, are_new, are_known, IsPlain};
 
 use crate::keys::{KeySet, characters_of};
@@ -13,81 +11,13 @@ use core_form::{Binder, Def, Expr, ExprForm, FunName, Module};
 use erl_base::{Name, NoMemory};
 use erl_term::Term;
 use std::alloc::Global;
-
-const KEPT_WORDS: [&str; 29] = [
-    "after", "and", "andalso", "band", "begin", "bnot", "bor", "bsl", "bsr", "bxor", "case",
-    "catch", "cond", "div", "else", "end", "fun", "if", "let", "maybe", "not", "of", "or",
-    "orelse", "receive", "rem", "try", "when", "xor",
-];
-
-fn is_lower(c: char) -> bool
-    ensures { result ≡ is_lower c }
-{
-    matches!(c, 'a'..='z')
-}
-
-fn is_name_char(c: char) -> bool
-    ensures { result ≡ is_name_char c }
-{
-    is_lower(c) || matches!(c, 'A'..='Z') || matches!(c, '0'..='9') || c == '_' || c == '@'
-}
-
-fn are_name_chars(name: &[char]) -> bool
-    ensures { result ≡ every is_name_char name.now }
-{
-    for c in name {
-        if !is_name_char(*c) {
-            return false;
-        }
-    }
-    true
-}
-
-fn is_spelled(spelling: &[u8], name: &[char]) -> bool
-    ensures { result ≡ same_name spelling.now name.now }
-{
-    if name.len() != spelling.len() {
-        return false;
-    }
-    for (i, c) in name.iter().enumerate() {
-        if spelling[i] as u32 != *c as u32 {
-            return false;
-        }
-    }
-    true
-}
-
-fn is_none_of(table: &[&str], name: &[char]) -> bool
-    ensures { result ≡ every (λ k. not (same_name k name.now)) (map (λ s. s.now) table.now) }
-{
-    for spelling in table {
-        if is_spelled(spelling.as_bytes(), name) {
-            return false;
-        }
-    }
-    true
-}
-
-fn is_no_kept_word(name: &[char]) -> bool
-    ensures { result ≡ every (λ k. not (same_name k name.now)) kept_words }
-{
-    is_none_of(&KEPT_WORDS, name)
-}
-
-fn is_plain_text(name: &[char]) -> bool
-    ensures { result ≡ is_plain_name name.now }
-{
-    let [first, later @ ..] = name else {
-        return false;
-    };
-    is_lower(*first) && are_name_chars(later) && is_no_kept_word(name)
-}
+use term_text::is_plain_name;
 
 fn is_plain_atom(alloc: Global, name: &Name) -> Result<bool, NoMemory>
     ensures { IfOk result (λ plain. plain ≡ is_plain_atom name.now) }
 {
     let characters = characters_of(alloc, name)?;
-    Ok(is_plain_text(characters.as_slice()) && characters.len() <= 255)
+    Ok(is_plain_name(characters.as_slice()) && characters.len() <= 255)
 }
 
 pub fn is_same(name: &Name, other: &Name) -> bool
