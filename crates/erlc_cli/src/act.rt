@@ -77,6 +77,7 @@ fn compile_file<S: Store>(alloc: Global, store: &mut S, input: &str, output: &st
     ensures read { result ≡ Status.ReadFault → Rose (S.read_faults store.old) (S.read_faults store.new) ⊎ IsSomeAnd (S.files store.old) (λ f. f input.now ≡ None) }
     ensures write { result ≡ Status.WriteFault → Rose (S.write_faults store.old) (S.write_faults store.new) }
     ensures no_room { IfSome (S.rooms store.old) (λ r. IfSome (S.files store.old) (λ f. result ≡ Status.WriteFault → NoRoom input.now output.now f r)) }
+    ensures headline { Alike (S.files store.old) (S.files store.new) (Headline input.now output.now result (Rose (S.read_faults store.old) (S.read_faults store.new)) (Rose (S.write_faults store.old) (S.write_faults store.new))) }
 {
     let text = match load_all(alloc, store, input) {
         Ok(text) => text,
