@@ -1,8 +1,7 @@
 // Expressions and decision trees. Let chains, the second trees of `Either`, the first ones of `Step` and the trees of last
 // cases and rows are as long as a body, so what walks them goes along in a loop.
 ghost use Rattle.std.specs.Prelude.{◌≡◌};
-ghost use Rattle.kernel_form.specs.Apart.{expr_parts_view, tree_parts_view};
-ghost use Rattle.kernel_form.specs.View.{view, tree_view};
+ghost use Rattle.kernel_form.specs.Apart.{expr_of, tree_of};
 ghost use Rattle.kernel_form.specs.declared.tree.Case.{out-Case};
 ghost use Rattle.kernel_form.specs.declared.tree.SegRow.{out-SegRow};
 
@@ -92,7 +91,7 @@ pub type Rows = List<Row>;
 
 impl KExpr {
     pub fn into_parts(self) -> ExprParts
-        ensures { expr_parts_view result ≡ view self }
+        ensures { expr_of result ≡ self }
     {
         match self {
             KExpr::Values(values) => ExprParts::Values(values),
@@ -112,7 +111,7 @@ impl KExpr {
 
 impl Tree {
     pub fn into_parts(self) -> TreeParts
-        ensures { tree_parts_view result ≡ tree_view self }
+        ensures { tree_of result ≡ self }
     {
         match self {
             Tree::Body(body) => TreeParts::Body(body),
