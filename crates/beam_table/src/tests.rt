@@ -1,6 +1,6 @@
 use crate::{
     AsmFun, AsmFuns, AsmModule, Extern, Flags, GetPair, Insn, Insns, PutPair, Reg, Segment,
-    SegmentKind, Source, ValueChoice,
+    SegmentKind, SizeChoice, Source, ValueChoice,
 };
 use erl_base::{Duplicate, FunKey, LabelId, List, Name, NoMemory};
 use erl_term::Term;
@@ -40,6 +40,20 @@ fn copied_label(alloc: Global) -> Result<LabelId, NoMemory> {
     Ok(choice.copy(alloc)?.label)
 }
 
+fn copied_choice(alloc: Global) -> Result<SizeChoice, NoMemory> {
+    let choice = SizeChoice {
+        size: 2,
+        label: LabelId(6),
+    };
+    choice.copy(alloc)
+}
+
+fn copied_items(alloc: Global) -> Result<Insn, NoMemory> {
+    let mut items = List::new(alloc);
+    items.push(Source::Integer(5))?;
+    Insn::PutTuple2(Reg::X(2), items).copy(alloc)
+}
+
 fn copied_unit(alloc: Global) -> Result<u32, NoMemory> {
     let segment = Segment {
         kind: SegmentKind::Binary,
@@ -63,6 +77,11 @@ fn operands_are_copied(rt: HostRuntime) -> Result<(), Fail> {
     assert!(rt; copied_target(alloc)? == Reg::Y(3));
     assert!(rt; copied_label(alloc)? == LabelId(9));
     assert!(rt; copied_unit(alloc)? == 8);
+    assert!(rt; copied_choice(alloc)?.size == 2 && copied_choice(alloc)?.label == LabelId(6));
+    match copied_items(alloc)? {
+        Insn::PutTuple2(_, items) => assert_eq!(rt; items.len(), 1),
+        _ => assert!(rt; false),
+    }
     Ok(())
 }
 

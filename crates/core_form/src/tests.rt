@@ -6,10 +6,11 @@ use crate::makers::{
     values, var,
 };
 use crate::{
-    Binder, Binders, Clauses, Defs, Expr, ExprForm, Exprs, FunName, KeyPatterns, MapParts, Module,
-    Pattern, PatternForm, Patterns, SegPatterns, Segments, Site,
+    Binder, Binders, Clauses, Defs, Expr, ExprForm, Exprs, FunName, KeyPattern, KeyPatterns,
+    MapPart, MapParts, Module, Pattern, PatternForm, Patterns, SegPattern, SegPatterns, Segment,
+    Segments, Site,
 };
-use erl_base::{Boxed, FunKey, List, Name, NoMemory, Place};
+use erl_base::{Boxed, Duplicate, FunKey, List, Name, NoMemory, Place};
 use erl_term::Term;
 use std::alloc::Global;
 use std::test::Fail;
@@ -231,8 +232,58 @@ fn a_site_is_copied(rt: HostRuntime) -> Result<(), Fail> {
         params: vars(alloc)?,
         captures: List::new(alloc),
     };
-    let copy = site.copy(alloc)?;
+    let copy: Site = Duplicate::copy(&site, alloc)?;
     assert_eq!(rt; copy.params.len(), 1);
     assert!(rt; copy.captures.is_empty());
+    Ok(())
+}
+
+fn copied_expr(alloc: Global) -> Made<Expr> {
+    let expr = x(alloc)?;
+    Duplicate::copy(expr.get(), alloc)
+}
+
+fn copied_pattern(alloc: Global) -> Made<Pattern> {
+    let pattern = known_here(alloc)?;
+    Duplicate::copy(pattern.get(), alloc)
+}
+
+fn copied_part(alloc: Global) -> Made<MapPart> {
+    let part = map_part(alloc, both(x(alloc), x(alloc)), true)?;
+    part.get().copy(alloc)
+}
+
+fn copied_segment(alloc: Global) -> Made<Segment> {
+    let inner = both(x(alloc), x(alloc));
+    let segment = segment_of(alloc, HERE, inner, encoding(alloc))?;
+    segment.get().copy(alloc)
+}
+
+fn copied_key(alloc: Global) -> Made<KeyPattern> {
+    let key = key_pattern(alloc, both(x(alloc), known_here(alloc)))?;
+    key.get().copy(alloc)
+}
+
+fn copied_seg_pattern(alloc: Global) -> Made<SegPattern> {
+    let inner = both(known_here(alloc), x(alloc));
+    let segment = seg_pattern(alloc, HERE, inner, encoding(alloc))?;
+    segment.get().copy(alloc)
+}
+
+fn copied_clauses(alloc: Global) -> Made<Clauses> {
+    let clauses = clauses(alloc)?;
+    Duplicate::copy(&clauses, alloc)
+}
+
+#[test]
+fn each_kind_is_copied_alone(rt: HostRuntime) -> Result<(), Fail> {
+    let alloc = rt.alloc();
+    assert!(rt; matches!(&copied_expr(alloc)?.form, ExprForm::Var(_)));
+    assert!(rt; matches!(&copied_pattern(alloc)?.form, PatternForm::Literal(_)));
+    assert!(rt; copied_part(alloc)?.exact);
+    assert_eq!(rt; copied_segment(alloc)?.place, HERE);
+    assert!(rt; matches!(&copied_key(alloc)?.pattern.form, PatternForm::Literal(_)));
+    assert_eq!(rt; copied_seg_pattern(alloc)?.place, HERE);
+    assert_eq!(rt; copied_clauses(alloc)?.len(), 1);
     Ok(())
 }

@@ -2,7 +2,7 @@ ghost use Rattle.std.specs.Prelude.{◌≡◌, IfOk};
 ghost use Rattle.erl_term.specs.WellFormed.{IsFull, IsNormal};
 
 use crate::{Attribute, Bits, Class, Pair, Term, compare};
-use erl_base::{Boxed, List, Name, NoMemory, SiteId};
+use erl_base::{Boxed, Duplicate, List, Name, NoMemory, SiteId};
 use std::alloc::Global;
 use std::cmp::Ordering;
 use std::test::Fail;
@@ -110,7 +110,22 @@ fn attribute(alloc: Global) -> Result<Attribute, NoMemory> {
 fn copies_are_made(rt: HostRuntime) -> Result<(), Fail> {
     let alloc = rt.alloc();
     let first = attribute(alloc)?;
-    let second = first.copy(alloc)?;
+    let second: Attribute = Duplicate::copy(&first, alloc)?;
     assert!(rt; second.key.is(&first.key));
+    assert_eq!(rt; Duplicate::copy(&Class::Exit, alloc)?, Class::Exit);
+    let bits: Bits = Duplicate::copy(&three_bits(alloc)?, alloc)?;
+    assert_eq!(rt; bits.length, 3);
+    Ok(())
+}
+
+#[test]
+fn pairs_are_copied(rt: HostRuntime) -> Result<(), Fail> {
+    let mut pairs = List::new(rt.alloc());
+    pairs.push(Pair {
+        key: Term::Int(1),
+        value: Term::Port(2),
+    })?;
+    let copy: List<Pair> = Duplicate::copy(&pairs, rt.alloc())?;
+    assert!(rt; copy.len() == 1 && matches!(&copy.as_slice()[0].value, Term::Port(2)));
     Ok(())
 }

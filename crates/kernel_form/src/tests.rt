@@ -1,6 +1,6 @@
 use crate::build::{
-    boxed, boxed_tree, either, fall, give, let_in, match_in, one_var, simple, step, switch,
-    two_values, var,
+    body, boxed, boxed_tree, catch_of, either, fall, give, guarded, let_in, match_in, one_var,
+    receive, segments, simple, step, switch, try_of, two_values, var,
 };
 use crate::{
     BinStep, Case, KExpr, KFun, KKeyPat, KPair, KPart, KPat, KPats, KSeg, KSegs, KSimple, KValue,
@@ -270,4 +270,85 @@ fn rows_are_copied(rt: HostRuntime) -> Result<(), Fail> {
     let copy = row.copy(rt.alloc())?;
     assert!(rt; are_segs(&copy.segs));
     Ok(())
+}
+
+#[test]
+fn each_kind_is_copied_alone(rt: HostRuntime) -> Result<(), Fail> {
+    let alloc = rt.alloc();
+    let step: KSimple = Duplicate::copy(&KSimple::Send(var(1), var(2)), alloc)?;
+    assert!(rt; matches!(step, KSimple::Send(_, KValue::Var(VarId(2)))));
+    let shape: Shape = Duplicate::copy(&Shape::MapHas(var(3)), alloc)?;
+    assert!(rt; matches!(shape, Shape::MapHas(KValue::Var(VarId(3)))));
+    let mark: BinStep = Duplicate::copy(&BinStep::Mark(VarId(4), VarId(5)), alloc)?;
+    assert!(rt; matches!(mark, BinStep::Mark(VarId(4), VarId(5))));
+    Ok(())
+}
+
+fn copied_key(alloc: Global) -> Result<KKeyPat, NoMemory> {
+    let key = KKeyPat {
+        key: var(1),
+        pat: KPat::Any,
+    };
+    Duplicate::copy(&key, alloc)
+}
+
+#[test]
+fn keys_are_copied_alone(rt: HostRuntime) -> Result<(), Fail> {
+    let copy = copied_key(rt.alloc())?;
+    assert!(rt; matches!(&copy.key, KValue::Var(VarId(1))));
+    assert!(rt; matches!(&copy.pat, KPat::Any));
+    Ok(())
+}
+
+// One expression of each form but lets and matches, one in the other.
+fn tried(alloc: Global) -> Result<KExpr, NoMemory> {
+    let tried = boxed(alloc, catch_of(boxed(alloc, simple(KSimple::Trace))?))?;
+    let body = boxed(alloc, give(alloc, var(1))?)?;
+    let handler = boxed(alloc, waiting(alloc)?)?;
+    Ok(try_of(tried, one_var(alloc, 1)?, body, one_var(alloc, 2)?, handler))
+}
+
+fn waiting(alloc: Global) -> Result<KExpr, NoMemory> {
+    let after = boxed(alloc, give(alloc, var(3))?)?;
+    Ok(receive(6, 3, guarding(alloc)?, var(4), after))
+}
+
+// A tree of each form that the chains above lack.
+fn guarding(alloc: Global) -> Result<Tree, NoMemory> {
+    let guard = boxed(alloc, give(alloc, var(3))?)?;
+    let then = boxed_tree(alloc, body(boxed(alloc, give(alloc, var(5))?)?))?;
+    Ok(guarded(guard, then, boxed_tree(alloc, one_row(alloc)?)?))
+}
+
+fn one_row(alloc: Global) -> Result<Tree, NoMemory> {
+    let mut rows = List::new(alloc);
+    let segs = segs(alloc)?;
+    rows.push(SegRow {
+        segs,
+        then: fall(4),
+    })?;
+    Ok(segments(3, rows, boxed_tree(alloc, fall(0))?))
+}
+
+#[test]
+fn all_forms_are_copied(rt: HostRuntime) -> Result<(), Fail> {
+    let copy = tried(rt.alloc())?.copy(rt.alloc())?;
+    match &copy {
+        KExpr::Try(tried, _, _, caught, handler) => {
+            assert!(rt; matches!(tried.get(), KExpr::Catch(_)));
+            assert_eq!(rt; caught.len(), 1);
+            assert!(rt; is_waiting(handler.get()));
+        }
+        _ => assert!(rt; false),
+    }
+    Ok(())
+}
+
+fn is_waiting(expr: &KExpr) -> bool {
+    match expr {
+        KExpr::Receive(6, VarId(3), Tree::Guarded(_, then, last), _, _) => {
+            matches!(then.get(), Tree::Body(_)) && matches!(last.get(), Tree::Segments(_, _, _))
+        }
+        _ => false,
+    }
 }

@@ -1,5 +1,5 @@
 use crate::{Delay, Happening, How, Message, Reply, Request, Script};
-use erl_base::{List, Name, NoMemory};
+use erl_base::{Duplicate, List, Name, NoMemory};
 use erl_term::Term;
 use std::alloc::Global;
 use std::test::Fail;
@@ -49,5 +49,50 @@ fn copies_are_made(rt: HostRuntime) -> Result<(), Fail> {
     let copied = script(alloc)?.copy(alloc)?;
     assert!(rt; copied.replies.len() == 1);
     assert!(rt; copied.choices.as_slice().len() == 1);
+    Ok(())
+}
+
+#[test]
+fn ways_are_copied_as_items(rt: HostRuntime) -> Result<(), Fail> {
+    let alloc = rt.alloc();
+    assert_eq!(rt;
+        Duplicate::copy(&Delay::Millis(7), alloc)?,
+        Delay::Millis(7)
+    );
+    assert_eq!(rt; Duplicate::copy(&How::Throw, alloc)?, How::Throw);
+    Ok(())
+}
+
+#[test]
+fn requests_are_copied_as_items(rt: HostRuntime) -> Result<(), Fail> {
+    let request: Request = Duplicate::copy(&Request::Look, rt.alloc())?;
+    assert!(rt; matches!(request, Request::Look));
+    Ok(())
+}
+
+#[test]
+fn happenings_are_copied_as_items(rt: HostRuntime) -> Result<(), Fail> {
+    let happening: Happening = Duplicate::copy(&Happening::Taken(4), rt.alloc())?;
+    assert!(rt; matches!(happening, Happening::Taken(4)));
+    Ok(())
+}
+
+#[test]
+fn scripts_are_copied_as_items(rt: HostRuntime) -> Result<(), Fail> {
+    let script = script(rt.alloc())?;
+    let copy: Script = Duplicate::copy(&script, rt.alloc())?;
+    assert!(rt; copy.replies.len() == 1);
+    Ok(())
+}
+
+#[test]
+fn messages_are_copied_as_items(rt: HostRuntime) -> Result<(), Fail> {
+    let mut mailbox = List::new(rt.alloc());
+    mailbox.push(Message {
+        serial: 2,
+        term: Term::Nil,
+    })?;
+    let copy: List<Message> = Duplicate::copy(&mailbox, rt.alloc())?;
+    assert!(rt; copy.len() == 1 && copy.as_slice()[0].serial == 2);
     Ok(())
 }
