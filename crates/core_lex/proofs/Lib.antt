@@ -4,9 +4,6 @@ pub mod Cut
 pub mod Encoded
 pub mod Fed
 pub mod Fronts
-pub mod Names
 pub mod Places
-pub mod Quoting
 pub mod Scanning
 pub mod Sizes
-pub mod Values

@@ -1,5 +1,3 @@
-pub mod Characters
-pub mod Escapes
 pub mod LexerState
 pub mod Places
 pub mod TokenLaws

@@ -7,8 +7,9 @@ use Rattle.erl_base.specs.declared.ids.Place.{Place}
 use Rattle.core_lex.specs.declared.token.Token.{Token}
 use Rattle.core_lex.specs.declared.token.TokenKind.{TokenKind}
 use Rattle.core_lex.specs.declared.token.TokenKind.TheVariants.{Word, Symbol, Variable, Atom, Number, Wide, Float, Character, Letters, Bad, End}
-use Rattle.core_lex.specs.Characters.{is_blank, is_lower, is_digit, is_capital, is_name_char, is_sign, is_exponent_mark, is_in_line, first_is, value_from}
-use Rattle.core_lex.specs.Escapes.{quoted_char}
+use Rattle.core_chars.specs.Characters.{is_blank, is_lower, is_digit, is_capital, is_name_char, is_sign, is_exponent_mark, is_in_line, first_is, value_from}
+use Rattle.core_chars.specs.Escapes.{quoted_char}
+use Rattle.core_chars.specs.Quoted.{quoted_text}
 use Rattle.core_lex.specs.Places.{start, past, byte_len}
 
 -- A lexeme: the kind of the token, or None for a blank or a comment, and how many characters write it.
@@ -88,29 +89,6 @@ number_at cs =
     if fraction == 0 then (Some (integer_of (first_is (λ c. c == 45) cs) (signs == 1) digits), whole) else (Some Float, whole + fraction)
 
 -- ---- quoted texts and characters
-
-abbrev pub with_char : Option (ℕ × ℕ) → Option (List ℕ × ℕ) → Option (List ℕ × ℕ)
-with_char None later = None
-with_char (Some c) None = None
-with_char (Some c) (Some text) = Some (c.0 ∷ text.0, text.1 + 1)
-
-abbrev pub one_longer : Option (List ℕ × ℕ) → Option (List ℕ × ℕ)
-one_longer None = None
-one_longer (Some text) = Some (text.0, text.1 + 1)
-
--- how many more characters belong to the one that was read
-abbrev pub more_of : Option (ℕ × ℕ) → ℕ
-more_of None = 0
-more_of (Some c) = c.1 - 1
-
--- The text up to the closing quote, and how many characters write it, that quote counted; None where no quote closes it or
--- an escape is none. The first `skip` characters belong to an escape that was read.
-abbrev pub quoted_text : (quote : ℕ) → List ℕ → (skip : ℕ) → Option (List ℕ × ℕ)
-quoted_text quote [] skip = None
-quoted_text quote (c ∷ cs) (suc skip) = one_longer (quoted_text quote cs skip)
-quoted_text quote (c ∷ cs) zero =
-    if c == quote then Some ([], 1)
-    else with_char (quoted_char (c ∷ cs)) (quoted_text quote cs (more_of (quoted_char (c ∷ cs))))
 
 abbrev pub quoted_lexeme : (List ℕ → TokenKind) → Option (List ℕ × ℕ) → Lexeme
 quoted_lexeme kind None = bad

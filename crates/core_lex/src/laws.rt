@@ -1,8 +1,7 @@
 // What the definition of the tokens amounts to. These functions do nothing: each law is its contract.
-ghost use Rattle.std.specs.Prelude.{◌≡◌, ℕ, ◌+◌, ◌^◌, ◌<◌, ◌≤◌, List, length, take, drop, Some, decimal};
+ghost use Rattle.std.specs.Prelude.{◌≡◌, ℕ, ◌+◌, ◌<◌, ◌≤◌, List, length, take, drop, Some};
 ghost use Rattle.erl_base.specs.declared.ids.Place.{Place};
 ghost use Rattle.core_lex.specs.declared.token.TokenKind.TheVariants.{Symbol};
-ghost use Rattle.core_lex.specs.Characters.{value_from};
 ghost use Rattle.core_lex.specs.Places.{place_after, byte_len};
 ghost use Rattle.core_lex.specs.TokenLaws.{IsWithin, Begins, IsLongestSymbol};
 ghost use Rattle.core_lex.specs.Tokens.{lexeme_at, tokens_from, before, symbol_at, bad};
@@ -19,9 +18,4 @@ pub fn lexemes_cut_the_text()
 pub fn longest_symbol_is_taken()
     ensures longest { (cs s : List ℕ) → IsLongestSymbol cs s → symbol_at cs ≡ (Some (Symbol s), length s) }
     ensures none { (cs : List ℕ) → ((s : List ℕ) → Begins cs s → ⊥) → symbol_at cs ≡ bad }
-{}
-
-/// The digits that write a number have its value.
-pub fn digits_have_their_value()
-    ensures { (n : ℕ) → n < 10 ^ 64 → value_from 10 0 (decimal n) ≡ n }
 {}

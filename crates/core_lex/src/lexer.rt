@@ -9,10 +9,10 @@ ghost use Rattle.erl_base.specs.declared.refusal.Refusal.{Refusal};
 ghost use Rattle.erl_base.specs.declared.refusal.Fault.TheVariants.{Refused};
 ghost use Rattle.erl_base.specs.declared.refusal.Kind.TheVariants.{NotUtf8};
 
-use crate::part::{behind, front};
 use crate::place::past;
 use crate::scan::scan;
 use crate::token::Tokens;
+use core_chars::{behind, front};
 use erl_base::{Fault, Kind, NoMemory, Place, Refusal};
 use std::alloc::{AllocError, Global};
 use std::marker::Model;

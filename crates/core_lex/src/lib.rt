@@ -18,21 +18,15 @@
 //! What the contracts leave open is want of memory alone: `feed`, `finish`, `lex` and what they call may answer it at any time.
 #![tactic(auto)]
 
-mod classes;
-mod escape;
 mod laws;
 mod lexer;
 mod listed;
 mod number;
-mod part;
 mod place;
 mod quoted;
 mod scan;
 mod token;
 
-pub use classes::{digits_len, is_digit, is_sign};
-pub use laws::{digits_have_their_value, lexemes_cut_the_text, longest_symbol_is_taken};
+pub use laws::{lexemes_cut_the_text, longest_symbol_is_taken};
 pub use lexer::{Lexer, lex};
-pub use number::{magnitude_of, negative};
-pub use quoted::{name_of, quoted_text};
 pub use token::{Codes, Token, TokenKind, Tokens};

@@ -3,10 +3,8 @@ ghost use Rattle.std.specs.Prelude.{◌≡◌, ◌<◌, ◌≤◌, length, IfOk,
 ghost use Rattle.core_lex.specs.LexerState.{IsNotEnd};
 ghost use Rattle.core_lex.specs.Tokens.{is_one_of, words, long_symbols, short_symbols, word_at, variable_at, symbol_at, bad};
 
-use crate::classes::name_len;
-use crate::part::front;
-use crate::quoted::name_of;
 use crate::token::TokenKind;
+use core_chars::{front, name_in, name_len};
 use erl_base::NoMemory;
 use std::alloc::Global;
 
@@ -82,7 +80,11 @@ fn is_short_symbol(text: &[char]) -> bool
 }
 
 #[tactic(auto, unfolding(crate::specs::Tokens::word_at))]
-pub fn word(alloc: Global, rest: &[char]) -> Result<(Option<TokenKind>, usize), NoMemory>
+pub fn word(
+    alloc: Global,
+    spelled: &mut String,
+    rest: &[char],
+) -> Result<(Option<TokenKind>, usize), NoMemory>
     requires { 0 < length rest.now }
     ensures value { IfOk result (λ lexeme. lexeme ≡ word_at rest.now) }
     ensures positive { IfOk result (λ lexeme. 0 < lexeme.1) }
@@ -92,14 +94,18 @@ pub fn word(alloc: Global, rest: &[char]) -> Result<(Option<TokenKind>, usize), 
     let size = 1 + name_len(&rest[1..]);
     let name = &rest[..size];
     if is_word(name) {
-        Ok((Some(TokenKind::Word(name_of(alloc, name)?)), size))
+        Ok((Some(TokenKind::Word(name_in(alloc, spelled, name)?)), size))
     } else {
         Ok((Some(TokenKind::Bad), 1))
     }
 }
 
 #[tactic(auto, unfolding(crate::specs::Tokens::variable_at))]
-pub fn variable(alloc: Global, rest: &[char]) -> Result<(Option<TokenKind>, usize), NoMemory>
+pub fn variable(
+    alloc: Global,
+    spelled: &mut String,
+    rest: &[char],
+) -> Result<(Option<TokenKind>, usize), NoMemory>
     requires { 0 < length rest.now }
     ensures value { IfOk result (λ lexeme. lexeme ≡ variable_at rest.now) }
     ensures positive { IfOk result (λ lexeme. 0 < lexeme.1) }
@@ -108,13 +114,17 @@ pub fn variable(alloc: Global, rest: &[char]) -> Result<(Option<TokenKind>, usiz
 {
     let size = 1 + name_len(&rest[1..]);
     Ok((
-        Some(TokenKind::Variable(name_of(alloc, &rest[..size])?)),
+        Some(TokenKind::Variable(name_in(alloc, spelled, &rest[..size])?)),
         size,
     ))
 }
 
 #[tactic(auto, unfolding(crate::specs::Tokens::symbol_at))]
-pub fn symbol(alloc: Global, rest: &[char]) -> Result<(Option<TokenKind>, usize), NoMemory>
+pub fn symbol(
+    alloc: Global,
+    spelled: &mut String,
+    rest: &[char],
+) -> Result<(Option<TokenKind>, usize), NoMemory>
     requires { 0 < length rest.now }
     ensures value { IfOk result (λ lexeme. lexeme ≡ symbol_at rest.now) }
     ensures positive { IfOk result (λ lexeme. 0 < lexeme.1) }
@@ -123,11 +133,11 @@ pub fn symbol(alloc: Global, rest: &[char]) -> Result<(Option<TokenKind>, usize)
 {
     let long = front(rest, 2);
     if is_long_symbol(long) {
-        return Ok((Some(TokenKind::Symbol(name_of(alloc, long)?)), 2));
+        return Ok((Some(TokenKind::Symbol(name_in(alloc, spelled, long)?)), 2));
     }
     let short = front(rest, 1);
     if is_short_symbol(short) {
-        return Ok((Some(TokenKind::Symbol(name_of(alloc, short)?)), 1));
+        return Ok((Some(TokenKind::Symbol(name_in(alloc, spelled, short)?)), 1));
     }
     Ok((Some(TokenKind::Bad), 1))
 }

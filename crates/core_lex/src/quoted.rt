@@ -1,24 +1,12 @@
 // Atoms, strings and characters.
-ghost use Rattle.std.specs.Prelude.{◌≡◌, ◌+◌, ◌<◌, ◌≤◌, length, take, IfOk, IfSome, option_map};
+ghost use Rattle.std.specs.Prelude.{◌≡◌, ◌<◌, ◌≤◌, length, IfOk};
 ghost use Rattle.core_lex.specs.LexerState.{IsNotEnd};
-ghost use Rattle.core_lex.specs.Tokens.{quoted_text, atom_at, string_at, character_at};
+ghost use Rattle.core_lex.specs.Tokens.{atom_at, string_at, character_at};
 
-use crate::escape::quoted_char;
-use crate::part::behind;
 use crate::token::{Codes, TokenKind};
-use erl_base::{List, Name, NoMemory};
+use core_chars::{name_in, quoted_char, quoted_text};
+use erl_base::{List, NoMemory};
 use std::alloc::Global;
-
-/// The name that the characters spell.
-pub fn name_of(alloc: Global, text: &[char]) -> Result<Name, NoMemory>
-    ensures { IfOk result (λ name. name ≡ text.now) }
-{
-    let mut spelled = String::new(alloc);
-    for c in text {
-        spelled.push(*c)?;
-    }
-    Name::from_text(alloc, spelled.as_str())
-}
 
 fn codes_of(alloc: Global, text: &[char]) -> Result<Codes, NoMemory>
     ensures { IfOk result (λ codes. codes ≡ text.now) }
@@ -30,34 +18,12 @@ fn codes_of(alloc: Global, text: &[char]) -> Result<Codes, NoMemory>
     Ok(codes)
 }
 
-/// The text up to the closing quote, and how many characters write it, that quote counted.
-pub fn quoted_text(
-    alloc: Global,
-    quote: char,
-    rest: &[char],
-) -> Result<Option<(Vec<char>, usize)>, NoMemory>
-    ensures value { IfOk result (λ found. option_map (λ text. (text.0.items, text.1)) found ≡ quoted_text quote rest.now 0) }
-    ensures fits { IfOk result (λ found. IfSome found (λ text. text.1 ≤ length rest.now)) }
-{
-    let mut text = Vec::new(alloc);
-    let mut at = 0;
-    while at < rest.len() {
-        if rest[at] == quote {
-            return Ok(Some((text, at + 1)));
-        }
-        match quoted_char(behind(rest, at)) {
-            None => return Ok(None),
-            Some((c, size)) => {
-                text.push(c)?;
-                at += size;
-            }
-        }
-    }
-    Ok(None)
-}
-
 #[tactic(auto, unfolding(crate::specs::Tokens::atom_at))]
-pub fn atom(alloc: Global, rest: &[char]) -> Result<(Option<TokenKind>, usize), NoMemory>
+pub fn atom(
+    alloc: Global,
+    spelled: &mut String,
+    rest: &[char],
+) -> Result<(Option<TokenKind>, usize), NoMemory>
     requires { 0 < length rest.now }
     ensures value { IfOk result (λ lexeme. lexeme ≡ atom_at rest.now) }
     ensures positive { IfOk result (λ lexeme. 0 < lexeme.1) }
@@ -67,7 +33,7 @@ pub fn atom(alloc: Global, rest: &[char]) -> Result<(Option<TokenKind>, usize), 
     match quoted_text(alloc, '\'', &rest[1..])? {
         None => Ok((Some(TokenKind::Bad), 1)),
         Some((text, size)) => Ok((
-            Some(TokenKind::Atom(name_of(alloc, text.as_slice())?)),
+            Some(TokenKind::Atom(name_in(alloc, spelled, text.as_slice())?)),
             1 + size,
         )),
     }

@@ -4,19 +4,22 @@ ghost use Rattle.core_lex.specs.LexerState.{IsNotEnd, AreOpen};
 ghost use Rattle.core_lex.specs.Tokens.{lexeme_at, comment_at, is_bad, before, tokens, IsClosed};
 ghost use Rattle.core_lex.specs.declared.token.Token.{Token};
 
-use crate::classes::{is_blank, is_capital, is_lower, line_len};
 use crate::listed::{symbol, variable, word};
 use crate::number::{begins_number, number};
-use crate::part::behind;
 use crate::place::{byte_len, place_after};
 use crate::quoted::{atom, character, string};
 use crate::token::{Token, TokenKind, Tokens};
+use core_chars::{behind, is_blank, is_capital, is_lower, line_len};
 use erl_base::{List, NoMemory, Place};
 use std::alloc::Global;
 
 // The kind of the token at the front, or `None` for a blank or a comment, and how many characters write it.
 #[tactic(auto, unfolding(crate::specs::Tokens::lexeme_at, crate::specs::Tokens::comment_at))]
-fn lexeme(alloc: Global, rest: &[char]) -> Result<(Option<TokenKind>, usize), NoMemory>
+fn lexeme(
+    alloc: Global,
+    spelled: &mut String,
+    rest: &[char],
+) -> Result<(Option<TokenKind>, usize), NoMemory>
     requires { 0 < length rest.now }
     ensures value { IfOk result (λ lexeme. lexeme ≡ lexeme_at rest.now) }
     ensures positive { IfOk result (λ lexeme. 0 < lexeme.1) }
@@ -31,16 +34,16 @@ fn lexeme(alloc: Global, rest: &[char]) -> Result<(Option<TokenKind>, usize), No
         return Ok((None, 1 + line_len(&rest[1..])));
     }
     if is_lower(c) {
-        return word(alloc, rest);
+        return word(alloc, spelled, rest);
     }
     if is_capital(c) {
-        return variable(alloc, rest);
+        return variable(alloc, spelled, rest);
     }
     if begins_number(rest) {
         return Ok(number(rest));
     }
     if c == '\'' {
-        return atom(alloc, rest);
+        return atom(alloc, spelled, rest);
     }
     if c == '"' {
         return string(alloc, rest);
@@ -48,7 +51,7 @@ fn lexeme(alloc: Global, rest: &[char]) -> Result<(Option<TokenKind>, usize), No
     if c == '$' {
         return Ok(character(rest));
     }
-    symbol(alloc, rest)
+    symbol(alloc, spelled, rest)
 }
 
 fn is_bad(kind: &TokenKind) -> bool
@@ -106,12 +109,13 @@ pub fn scan(alloc: Global, text: &[char]) -> Result<Tokens, NoMemory>
     ensures closed { IfOk result (λ found. IsClosed found) }
 {
     let mut found = List::new(alloc);
+    let mut spelled = String::new(alloc);
     let mut at = 0;
     let mut place = Place { line: 1, column: 1 };
     let mut byte = 0u64;
     while at < text.len() {
         let rest = behind(text, at);
-        let (kind, size) = lexeme(alloc, rest)?;
+        let (kind, size) = lexeme(alloc, &mut spelled, rest)?;
         let lexeme = &rest[..size];
         let to = byte + byte_len(lexeme);
         if keep(&mut found, kind, place, byte, to)? {

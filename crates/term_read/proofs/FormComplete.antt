@@ -4,7 +4,7 @@ use Rattle.std.specs.List.{list_all}
 use Rattle.std.proofs.lemmas.Bool.Decides.{nat_tests}
 use borrow.Author.Tests.{eqb-true}
 use Rattle.erl_base.specs.Names.{Name, same_name}
-use Rattle.core_lex.specs.Characters.{is_digit, is_sign, value_from}
+use Rattle.core_chars.specs.Characters.{is_digit, is_sign, value_from}
 use Rattle.erl_term.specs.Term as T
 use Rattle.erl_term.specs.Term.{Term, no_pair, Class}
 use Rattle.erl_term.specs.Terms.{terms, list_of}

@@ -7,10 +7,10 @@ use Rattle.std.proofs.lemmas.Bool.Decides.{nat_tests}
 use borrow.Author.Tests.{eqb-true}
 use Rattle.erl_base.specs.Names.{Name, same_name}
 use Rattle.erl_term.proofs.Forms.{left_true, right_true, both_true}
-use Rattle.core_lex.specs.Characters.{first_is}
-use Rattle.core_lex.specs.Escapes.{quoted_char}
-use Rattle.core_lex.specs.Tokens.{quoted_text}
-use Rattle.core_lex.proofs.Quoting.{behind, passed_over}
+use Rattle.core_chars.specs.Characters.{first_is}
+use Rattle.core_chars.specs.Escapes.{quoted_char}
+use Rattle.core_chars.specs.Quoted.{quoted_text}
+use Rattle.core_chars.proofs.Quoting.{behind, passed_over}
 use Rattle.term_text.specs.Atoms.{is_small, is_within, is_name_character, is_kept, is_plain_name, kept_words, quoted_character, quoted_characters, atom_text}
 use Rattle.term_read.specs.Lexemes.{is_blank, behind_blanks, blanks_skipped, run_of, word_front, unquoted, quoted_rest, no_fun, name_front}
 use Rattle.term_read.specs.Printed.{Ends}
@@ -18,9 +18,9 @@ use Rattle.std.proofs.lemmas.Fmt.{hex_one_digit, hex_two_digits}
 use Rattle.std.specs.Fmt.{digit_glyph}
 use Rattle.std.specs.Char.{digit_value}
 use lib.Utf8.{scalar}
-use Rattle.core_lex.specs.Characters.{is_hex, value_from}
-use Rattle.core_lex.specs.Escapes.{code_escape, escape_at}
-use Rattle.core_lex.specs.Tokens.{with_char, more_of}
+use Rattle.core_chars.specs.Characters.{is_hex, value_from}
+use Rattle.core_chars.specs.Escapes.{code_escape, escape_at}
+use Rattle.core_chars.specs.Quoted.{with_char, more_of}
 use Rattle.term_read.proofs.NumbersRead.{run_is, run_all}
 
 -- Words.

@@ -5,7 +5,7 @@ use Rattle.std.specs.Char.{digit_value}
 use Rattle.std.proofs.lemmas.Bool.{lt-ltb, ltb-true, ltb-false}
 use Rattle.std.proofs.lemmas.Bool.Decides.{nat_tests}
 use Rattle.erl_term.proofs.Forms.{left_true, right_true, both_true}
-use Rattle.core_lex.specs.Characters.{is_digit, is_sign, first_is, value_from}
+use Rattle.core_chars.specs.Characters.{is_digit, is_sign, first_is, value_from}
 use Rattle.term_text.specs.Decimal.{digits_on, decimal_on, integer_on}
 use Rattle.term_read.specs.Lexemes.{◌>>=◌, is_blank, behind_blanks, blanks_skipped, run_of, integer_of, with_rest, digits_front, integer_front, integer_at, below, number_at}
 use Rattle.term_read.specs.Printed.{Ends, is_within_128}

@@ -2,8 +2,8 @@
 use Rattle.std.proofs.Common.{◌≡◌, ℕ, ◌+◌, ◌<◌, ◌≤◌, refl, sym, ap, ◌∙◌, subst, List, [], ◌∷◌, ◌++◌, length, Option, Some, None, Bool, true, false, if◌then◌else◌, eqb, not, ◌||◌, arith, ap₂, length-append, length-drop, drop, take_while, codes, ℤ, pos, negsuc, ltb, leb, cond, min, length-take, ◌&&◌, ◌^◌}
 use borrow.Author.Tests.{eqb-true}
 use Rattle.std.specs.List.{prefix_len}
-use Rattle.core_lex.specs.Characters.{is_digit, is_sign, first_is, value_from}
-use Rattle.core_lex.specs.Tokens.{quoted_text}
+use Rattle.core_chars.specs.Characters.{is_digit, is_sign, first_is, value_from}
+use Rattle.core_chars.specs.Quoted.{quoted_text}
 use Rattle.erl_base.specs.Names.{Name, same_name}
 use Rattle.term_text.specs.Atoms.{is_small, is_name_character, is_within}
 use Rattle.term_read.specs.Lexemes.{◌>>=◌, is_blank, blanks_skipped, behind_blanks, behind_mark, mark_at, run_of, word_front, unquoted, quoted_rest, no_fun, name_front, name_at, integer_of, with_rest, digits_front, integer_front, integer_at, below, number_at}

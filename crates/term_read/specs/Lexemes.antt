@@ -2,8 +2,8 @@
 -- long as they can be. Each function gives what stands at the front, and the characters that are left behind it.
 use Rattle.std.specs.Prelude.{ℕ, ℤ, pos, negsuc, neg_ℤ, ◌-◌, ◌^◌, ◌==◌, ◌||◌, nat_le, nat_lt, List, [], ◌∷◌, Bool, true, false, not, length, drop, take_while, Option, Some, None, if◌then◌else◌, codes}
 use Rattle.erl_base.specs.Names.{Name, same_name}
-use Rattle.core_lex.specs.Characters.{is_digit, is_sign, first_is, value_from}
-use Rattle.core_lex.specs.Tokens.{quoted_text}
+use Rattle.core_chars.specs.Characters.{is_digit, is_sign, first_is, value_from}
+use Rattle.core_chars.specs.Quoted.{quoted_text}
 use Rattle.term_text.specs.Atoms.{is_small, is_name_character}
 
 infixl 10 ◌>>=◌

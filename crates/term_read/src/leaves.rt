@@ -13,7 +13,7 @@ use crate::flat::{FunHead, class_in, extern_rest, number_in};
 use crate::lexemes::{behind_mark, integer_front, is_fun, quoted_rest, word_front};
 use crate::lists::code_points;
 use crate::unread::Unread;
-use core_lex::name_of;
+use core_chars::name_of;
 use erl_base::SiteId;
 use erl_term::{Term, Terms};
 use std::alloc::Global;

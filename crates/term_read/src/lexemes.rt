@@ -1,13 +1,13 @@
 // Blanks, marks, words, quoted texts and integers at the front of characters.
 ghost use Rattle.std.specs.Prelude.{◌≡◌, ◌+◌, ◌-◌, ◌<◌, ◌≤◌, ◌^◌, ◌==◌, length, take_while, option_map, IfOk, IfSome, codes};
 ghost use Rattle.erl_base.specs.Names.{same_name};
-ghost use Rattle.core_lex.specs.Characters.{first_is};
+ghost use Rattle.core_chars.specs.Characters.{first_is};
 ghost use Rattle.term_text.specs.Atoms.{is_name_character};
 ghost use Rattle.term_read.specs.Lexemes.{is_blank, behind_blanks, behind_mark, mark_at, run_of, word_front, quoted_rest, no_fun, name_front, name_at, integer_of, digits_front, integer_front, integer_at, number_at};
 ghost use Rattle.term_read.specs.Reading.{Gives};
 
 use crate::unread::Unread;
-use core_lex::{digits_len, is_digit, is_sign, magnitude_of, name_of, negative, quoted_text};
+use core_chars::{digits_len, is_digit, is_sign, magnitude_of, name_of, negative, quoted_text};
 use erl_base::Name;
 use std::alloc::Global;
 use term_text::{is_name_character, is_same, is_small};

@@ -1,0 +1,5 @@
+pub mod Decimal
+pub mod Names
+pub mod Quoting
+pub mod Sizes
+pub mod Values

@@ -1,7 +1,0 @@
-use Rattle.std.proofs.Common.{◌∙◌}
-use Rattle.core_lex.proofs.Names.{chars_of_spelled, named, spelled_whole}
-use Rattle.core_lex.proofs.quoted.name_of.Goals as goal
-
-pub returns : goal.returns
-returns c =
-    named _ _ _ (chars_of_spelled _ _ c.as_str.utf8 (c.as_str.ensures.value ∙ spelled_whole _ c.args.text.now c.loop-c.c-index c.loop-c-test.false c.loop-c.invariant)) c.from_text.ensures

@@ -1,5 +1,0 @@
-use Rattle.std.proofs.Common.{◌≡◌, ◌++◌, drop, string_bytes, encode_utf8_all}
-use Rattle.core_lex.proofs.quoted.name_of.Given as goal
-
-abbrev pub invariant-loop-c : goal.invariant-loop-c
-invariant-loop-c l = string_bytes l.spelled ++ encode_utf8_all (drop l.c-index l.text) ≡ encode_utf8_all l.text
