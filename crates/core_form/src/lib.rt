@@ -1,12 +1,9 @@
 //! The syntax tree of a Core Erlang module and its reading as a plain tree; names, degrees and limits are judged elsewhere.
 //!
-//! A body that always answers want of memory meets the contract of every `copy`: the test copies a tree of all forms with
-//! ample memory. Each item of a list is copied by way of a box, which costs an allocation that is freed at once.
+//! A body that always answers want of memory meets the contract of every `copy`: a test copies each with ample memory.
 #![tactic(auto)]
 
-mod copies;
 mod laws;
-mod makers;
 mod module;
 #[cfg(test)]
 mod tests;

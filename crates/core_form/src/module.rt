@@ -57,26 +57,6 @@ impl Duplicate for FunName {
     }
 }
 
-impl Module {
-    pub fn copy(&self, alloc: Global) -> Result<Module, NoMemory>
-        ensures { IfOk result (λ copy. copy ≡ self.now) }
-    {
-        let name = self.name.copy(alloc)?;
-        let exports = self.exports.copy(alloc)?;
-        let attributes = self.attributes.copy(alloc)?;
-        let defs = self.defs.copy(alloc)?;
-        Ok(Module {
-            name,
-            exports,
-            attributes,
-            defs,
-            floats: self.floats,
-            wide: self.wide,
-            long: self.long,
-        })
-    }
-}
-
 impl Site {
     pub fn copy(&self, alloc: Global) -> Result<Site, NoMemory>
         ensures { IfOk result (λ copy. copy ≡ self.now) }

@@ -1,7 +1,9 @@
 // Expressions, patterns and clauses. Every node is a struct with its place and its form.
+ghost use Rattle.std.specs.Prelude.{◌≡◌, IfOk};
 
-use erl_base::{Boxed, FunKey, List, Name, Place};
+use erl_base::{Boxed, Duplicate, FunKey, List, Name, NoMemory, Place};
 use erl_term::Term;
+use std::alloc::Global;
 
 /// A variable where it is bound; of a captured variable the place is that of its first use.
 #[derive(Debug, Drop)]
@@ -139,3 +141,20 @@ pub type Patterns = List<Pattern>;
 pub type KeyPatterns = List<KeyPattern>;
 
 pub type SegPatterns = List<SegPattern>;
+
+impl Binder {
+    pub fn copy(&self, alloc: Global) -> Result<Binder, NoMemory>
+        ensures { IfOk result (λ copy. copy ≡ self.now) }
+    {
+        Ok(Binder {
+            name: self.name.copy(alloc)?,
+            place: self.place,
+        })
+    }
+}
+
+impl Duplicate for Binder {
+    fn copy(&self, alloc: Global) -> Result<Binder, NoMemory> {
+        Binder::copy(self, alloc)
+    }
+}
