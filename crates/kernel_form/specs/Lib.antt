@@ -1,4 +1,3 @@
 pub mod Kernel
 pub mod View
-pub mod Chains
 pub mod Apart

@@ -14,10 +14,10 @@ use Rattle.kernel_form.specs.declared.pattern.KSeg.{KSeg, fold-KSeg}
 use Rattle.kernel_form.specs.declared.pattern.KKeyPat.{KKeyPat, fold-KKeyPat}
 use Rattle.kernel_form.specs.declared.pattern.KPat.TheOpen.{KPat-F, KSeg-F, KKeyPat-F}
 use Rattle.kernel_form.specs.declared.pattern.KPat.TheOpen as pat
-use Rattle.kernel_form.specs.declared.tree.Shape.{Shape}
-use Rattle.kernel_form.specs.declared.tree.Shape.TheVariants as H
-use Rattle.kernel_form.specs.declared.tree.BinStep.{BinStep}
-use Rattle.kernel_form.specs.declared.tree.BinStep.TheVariants as B
+use Rattle.kernel_form.specs.declared.shape.Shape.{Shape}
+use Rattle.kernel_form.specs.declared.shape.Shape.TheVariants as H
+use Rattle.kernel_form.specs.declared.shape.BinStep.{BinStep}
+use Rattle.kernel_form.specs.declared.shape.BinStep.TheVariants as B
 use Rattle.kernel_form.specs.declared.tree.Row.{Row}
 use Rattle.kernel_form.specs.declared.tree.KExpr.{KExpr, fold-KExpr}
 use Rattle.kernel_form.specs.declared.tree.Tree.{Tree, fold-Tree}

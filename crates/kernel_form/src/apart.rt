@@ -1,6 +1,7 @@
 // Expressions and trees taken apart by one level, for passes that build on with the parts: a pattern cannot move the parts
 // out of a value that has a drop of its own, but where its type is declared.
-use crate::tree::{BinStep, Cases, KExpr, SegRows, Tree};
+use crate::shape::BinStep;
+use crate::tree::{Cases, KExpr, SegRows, Tree};
 use crate::value::{KSimple, KValue, KValues, Vars};
 use erl_base::{Boxed, VarId};
 

@@ -6,10 +6,9 @@
 
 mod apart;
 pub mod build;
-mod chains;
-mod copies;
 mod kernel;
 mod pattern;
+mod shape;
 #[cfg(test)]
 mod tests;
 mod tree;
@@ -18,5 +17,6 @@ mod value;
 pub use apart::{ExprParts, TreeParts};
 pub use kernel::{FunKeys, KFun, KFuns, Kernel};
 pub use pattern::{KKeyPat, KKeyPats, KPat, KPats, KSeg, KSegs};
-pub use tree::{BinStep, Case, Cases, KExpr, Row, Rows, SegRow, SegRows, Shape, Tree};
+pub use shape::{BinStep, Shape};
+pub use tree::{Case, Cases, KExpr, Row, Rows, SegRow, SegRows, Tree};
 pub use value::{KPair, KPairs, KPart, KParts, KSimple, KValue, KValues, Vars};

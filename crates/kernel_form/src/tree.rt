@@ -6,10 +6,10 @@ ghost use Rattle.kernel_form.specs.declared.tree.Case.{out-Case};
 ghost use Rattle.kernel_form.specs.declared.tree.SegRow.{out-SegRow};
 
 use crate::apart::{ExprParts, TreeParts};
-use crate::pattern::{KPats, KSeg, KSegs};
+use crate::pattern::{KPats, KSegs};
+use crate::shape::{BinStep, Shape};
 use crate::value::{KSimple, KValue, KValues, Vars};
 use erl_base::{Boxed, List, VarId};
-use erl_term::Term;
 
 /// `Let` has the variables, what gives their values, and the body. `Try` has the tried part, the variables and body for
 /// its values, and the variables and body for what it raises. `Receive` has its number, the variable of the message, its
@@ -52,27 +52,6 @@ pub struct Case {
 pub struct SegRow {
     pub segs: KSegs,
     pub then: Tree,
-}
-
-/// `MapHas` is a map that has the key; its part is the key's value.
-#[derive(Drop)]
-pub enum Shape {
-    Lit(Term),
-    Cons,
-    Tuple(u32),
-    MapHas(KValue),
-}
-
-/// A step on the bits of a term. `Start` opens the bits of a variable as a context, `Integer` and `Bits` take a segment
-/// from a context, `Done` wants that nothing is left, `Mark` keeps the position and `Back` goes back to it.
-#[derive(Drop)]
-pub enum BinStep {
-    Start(VarId, VarId),
-    Integer(VarId, KSeg),
-    Bits(VarId, KSeg),
-    Done(VarId),
-    Mark(VarId, VarId),
-    Back(VarId, VarId),
 }
 
 /// A clause before it becomes a part of a tree.
