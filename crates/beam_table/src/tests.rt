@@ -73,7 +73,7 @@ fn copied_unit(alloc: Global) -> Result<u32, NoMemory> {
 fn operands_are_copied(rt: HostRuntime) -> Result<(), Fail> {
     let alloc = rt.alloc();
     assert!(rt; copied_arity(alloc)? == 2);
-    assert!(rt; matches!(copied_key(alloc)?, Source::Literal(Term::Int(7))));
+    assert!(rt; matches!(&copied_key(alloc)?, Source::Literal(Term::Int(7))));
     assert!(rt; copied_target(alloc)? == Reg::Y(3));
     assert!(rt; copied_label(alloc)? == LabelId(9));
     assert!(rt; copied_unit(alloc)? == 8);

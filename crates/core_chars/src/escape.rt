@@ -4,7 +4,7 @@ ghost use Rattle.core_chars.specs.Characters.{value_from};
 ghost use Rattle.core_chars.specs.Escapes.{letter_escape, code_escape, octal_escape, short_hex_escape, long_hex_escape, hex_escape, control_escape, escape_at, quoted_char};
 
 use crate::classes::{digit, hex_len, is_octal, octal_len};
-use crate::part::front;
+use erl_base::front;
 
 /// More than any code point.
 const CEILING: u32 = 0x11_0000;

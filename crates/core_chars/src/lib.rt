@@ -1,7 +1,8 @@
 //! What lexemes are made of: the classes of characters, escapes, quoted texts, names and the numbers that digits write. Each
 //! function equals one definition of `specs/`, and looks at no character behind those that it counts but the next.
 //!
-//! What the contracts leave open is want of memory alone: `name_of`, `name_in` and `quoted_text` may answer it at any time.
+//! What the contracts leave open is want of memory alone: `name_of`, `name_in`, `quoted_text` and `quoted_in` may answer it at any
+//! time.
 //! The tests of the crates above run them.
 #![tactic(auto)]
 
@@ -9,7 +10,6 @@ mod classes;
 mod digits;
 mod escape;
 mod laws;
-mod part;
 mod quoted;
 
 pub use classes::{
@@ -19,5 +19,4 @@ pub use classes::{
 pub use digits::{CEILING, magnitude_of, negative};
 pub use escape::quoted_char;
 pub use laws::digits_have_their_value;
-pub use part::{behind, front};
-pub use quoted::{name_in, name_of, quoted_text};
+pub use quoted::{name_in, name_of, quoted_in, quoted_text};

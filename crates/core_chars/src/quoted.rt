@@ -3,8 +3,7 @@ ghost use Rattle.std.specs.Prelude.{◌≡◌, ◌≤◌, length, IfOk, IfSome, 
 ghost use Rattle.core_chars.specs.Quoted.{quoted_text};
 
 use crate::escape::quoted_char;
-use crate::part::behind;
-use erl_base::{Name, NoMemory};
+use erl_base::{Name, NoMemory, behind};
 use std::alloc::Global;
 
 /// The name that the characters spell.
@@ -36,10 +35,26 @@ pub fn quoted_text(
     ensures fits { IfOk result (λ found. IfSome found (λ text. text.1 ≤ length rest.now)) }
 {
     let mut text = Vec::new(alloc);
+    match quoted_in(&mut text, quote, rest)? {
+        None => Ok(None),
+        Some(size) => Ok(Some((text, size))),
+    }
+}
+
+/// The same, with the text in a vector whose room is used again; it gives how many characters write it.
+pub fn quoted_in(
+    text: &mut Vec<char>,
+    quote: char,
+    rest: &[char],
+) -> Result<Option<usize>, NoMemory>
+    ensures value { IfOk result (λ found. option_map (λ size. (text.new.items, size)) found ≡ quoted_text quote rest.now 0) }
+    ensures fits { IfOk result (λ found. IfSome found (λ size. size ≤ length rest.now)) }
+{
+    text.clear();
     let mut at = 0;
     while at < rest.len() {
         if rest[at] == quote {
-            return Ok(Some((text, at + 1)));
+            return Ok(Some(at + 1));
         }
         match quoted_char(behind(rest, at)) {
             None => return Ok(None),

@@ -229,6 +229,12 @@ fn each_kind_is_copied_alone(rt: HostRuntime) -> Result<(), Fail> {
     assert!(rt; matches!(&copied(alloc, one(alloc))?.form, PatternForm::Literal(_)));
     assert!(rt; copied(alloc, part(alloc))?.exact);
     assert_eq!(rt; copied(alloc, segment(alloc))?.place, HERE);
+    Ok(())
+}
+
+#[test]
+fn each_kind_of_a_pattern_is_copied_alone(rt: HostRuntime) -> Result<(), Fail> {
+    let alloc = rt.alloc();
     assert!(rt;
         matches!(
             &copied(alloc, key_pattern(alloc))?.pattern.form,

@@ -1,9 +1,4 @@
-pub mod Begun
 pub mod Closing
 pub mod Cut
-pub mod Encoded
-pub mod Fed
-pub mod Fronts
-pub mod Places
 pub mod Scanning
 pub mod Sizes

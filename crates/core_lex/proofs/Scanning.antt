@@ -5,7 +5,7 @@ use Rattle.std.specs.Char.{len_utf8}
 use Rattle.erl_base.specs.declared.ids.Place.{Place}
 use Rattle.core_lex.specs.declared.token.Token.{Token}
 use Rattle.core_lex.specs.declared.token.TokenKind.{TokenKind}
-use Rattle.core_lex.specs.Places.{past, place_after, byte_len}
+use Rattle.utf8_text.specs.Places.{past, place_after, byte_len}
 use Rattle.core_lex.specs.Tokens.{Lexeme, lexeme_at, before, tokens_from}
 
 -- characters that belong to a lexeme that was read are passed over

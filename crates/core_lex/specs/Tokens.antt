@@ -10,7 +10,7 @@ use Rattle.core_lex.specs.declared.token.TokenKind.TheVariants.{Word, Symbol, Va
 use Rattle.core_chars.specs.Characters.{is_blank, is_lower, is_digit, is_capital, is_name_char, is_sign, is_exponent_mark, is_in_line, first_is, value_from}
 use Rattle.core_chars.specs.Escapes.{quoted_char}
 use Rattle.core_chars.specs.Quoted.{quoted_text}
-use Rattle.core_lex.specs.Places.{start, past, byte_len}
+use Rattle.utf8_text.specs.Places.{start, past, byte_len}
 
 -- A lexeme: the kind of the token, or None for a blank or a comment, and how many characters write it.
 abbrev pub Lexeme : Type 0

@@ -2,7 +2,7 @@
 ghost use Rattle.std.specs.Prelude.{◌≡◌, ℕ, ◌+◌, ◌<◌, ◌≤◌, List, length, take, drop, Some};
 ghost use Rattle.erl_base.specs.declared.ids.Place.{Place};
 ghost use Rattle.core_lex.specs.declared.token.TokenKind.TheVariants.{Symbol};
-ghost use Rattle.core_lex.specs.Places.{place_after, byte_len};
+ghost use Rattle.utf8_text.specs.Places.{place_after, byte_len};
 ghost use Rattle.core_lex.specs.TokenLaws.{IsWithin, Begins, IsLongestSymbol};
 ghost use Rattle.core_lex.specs.Tokens.{lexeme_at, tokens_from, before, symbol_at, bad};
 

@@ -1,120 +1,29 @@
 // Pieces of bytes into text, and text into tokens.
-ghost use Rattle.std.specs.Prelude.{◌≡◌, ◌+◌, ◌<◌, ◌≤◌, [], ◌++◌, length, take, drop, chars, IfOk, OnOk, OnErr, IfErr, IsUtf8, Ok, Err, is_some, flat_map};
-ghost use Rattle.std.specs.Str.Lossy.{utf8_valid_len, utf8_error_len};
-ghost use Rattle.core_lex.specs.Places.{start, place_after};
+ghost use Rattle.std.specs.Prelude.{◌≡◌, [], ◌++◌, chars, IfOk, OnOk, IfErr, IsUtf8, Err, flat_map};
+ghost use Rattle.utf8_text.specs.Utf8Text.{BeginsText, IsRefused, RefusesStart, Leaves, RefusesWhole, RefusesPieces};
 ghost use Rattle.core_lex.specs.Tokens.{tokens, IsClosed};
-ghost use Rattle.core_lex.specs.LexerState.{IsFed};
-ghost use Rattle.core_lex.specs.Utf8Text.{BeginsText, IsRefused, RefusesStart, Leaves, RefusesWhole, RefusesPieces};
 ghost use Rattle.erl_base.specs.declared.refusal.Refusal.{Refusal};
 ghost use Rattle.erl_base.specs.declared.refusal.Fault.TheVariants.{Refused};
-ghost use Rattle.erl_base.specs.declared.refusal.Kind.TheVariants.{NotUtf8};
 
-use crate::place::past;
 use crate::scan::scan;
 use crate::token::Tokens;
-use core_chars::{behind, front};
-use erl_base::{Fault, Kind, NoMemory, Place, Refusal};
-use std::alloc::{AllocError, Global};
+use erl_base::Fault;
+use std::alloc::Global;
 use std::marker::Model;
-use std::str;
+use utf8_text::{Pieces, characters};
 
 /// Reads a text that comes in pieces. Contracts see it as the bytes so far.
 #[derive(Debug, Drop)]
 pub struct Lexer {
-    bytes: Vec<u8>,
-    // How many bytes, from the first on, are whole characters.
-    whole: usize,
-    // Where the bytes stopped beginning a text.
-    broken: Option<Place>,
-}
-
-fn refused(place: Place) -> Fault
-    ensures { result ≡ Refused (record { kind = NotUtf8; place = place }) }
-{
-    Fault::Refused(Refusal {
-        kind: Kind::NotUtf8,
-        place,
-    })
-}
-
-// How many bytes at the front are text, and whether what follows them begins no character.
-fn text_front(bytes: &[u8]) -> (usize, bool)
-    ensures len { result.0 ≡ utf8_valid_len bytes.now }
-    ensures broken { result.1 ≡ is_some (utf8_error_len (drop result.0 bytes.now)) }
-    ensures fits { result.0 ≤ length bytes.now }
-{
-    match str::from_utf8(bytes) {
-        Ok(_) => (bytes.len(), false),
-        Err(error) => (error.valid_up_to(), error.error_len().is_some()),
-    }
-}
-
-// The place after the text that the bytes spell.
-fn text_end(bytes: &[u8]) -> Place
-    requires { IsUtf8 bytes.now }
-    ensures { result ≡ place_after (chars bytes.now) start }
-{
-    match str::from_utf8(bytes) {
-        Ok(text) => end_of(text),
-        Err(_) => unreachable!(),
-    }
-}
-
-fn end_of(text: &str) -> Place
-    ensures { result ≡ place_after (chars text.now) start }
-{
-    let mut place = Place { line: 1, column: 1 };
-    for c in text.chars() {
-        place = past(c, place);
-    }
-    place
-}
-
-// Adds the piece, and gives how many bytes are whole characters and where the bytes stopped beginning a text.
-fn take_piece(
-    bytes: &mut Vec<u8>,
-    whole: usize,
-    piece: &[u8],
-) -> Result<(usize, Option<Place>), AllocError>
-    requires { whole ≡ utf8_valid_len bytes.old.items }
-    ensures added { OnOk result (bytes.new.items ≡ bytes.old.items ++ piece.now) }
-    ensures fed { IfOk result (λ fed. IsFed bytes.new.items fed.0 fed.1) }
-    ensures err { OnErr result (bytes.new.items ≡ bytes.old.items) }
-{
-    bytes.extend_from_slice(piece)?;
-    let (size, broken) = text_front(behind(bytes.as_slice(), whole));
-    let whole = whole + size;
-    if broken {
-        let place = text_end(front(bytes.as_slice(), whole));
-        Ok((whole, Some(place)))
-    } else {
-        Ok((whole, None))
-    }
-}
-
-fn characters_of(alloc: Global, text: &str) -> Result<Vec<char>, AllocError>
-    ensures { IfOk result (λ characters. characters.items ≡ chars text.now) }
-{
-    text.chars().collect(alloc)
-}
-
-fn tokens_of(alloc: Global, text: &str) -> Result<Tokens, NoMemory>
-    ensures value { IfOk result (λ found. found ≡ tokens (chars text.now)) }
-    ensures closed { IfOk result (λ found. IsClosed found) }
-{
-    let characters = characters_of(alloc, text)?;
-    scan(alloc, characters.as_slice())
+    text: Pieces,
 }
 
 impl Model for Lexer {
     ghost use Rattle.std.specs.Prelude.{List, ℕ};
-    ghost use Rattle.core_lex.specs.LexerState.{IsFed};
 
     ghost Value = { List ℕ };
 
-    ghost view = { λ l. l.bytes.items };
-
-    ghost invariant = { λ l. IsFed l.bytes.items l.whole l.broken };
+    ghost view = { λ l. l.text };
 }
 
 impl Lexer {
@@ -123,9 +32,7 @@ impl Lexer {
         ensures { result ≡ [] }
     {
         Lexer {
-            bytes: Vec::new(alloc),
-            whole: 0,
-            broken: None,
+            text: Pieces::new(alloc),
         }
     }
 
@@ -136,16 +43,7 @@ impl Lexer {
         ensures left { IfErr result (λ fault. Leaves self.old self.new fault) }
         ensures again { (refusal : Refusal) → IsRefused self.old refusal → result ≡ Err (Refused refusal) }
     {
-        if let Some(place) = self.broken {
-            return Err(refused(place));
-        }
-        let (whole, broken) = take_piece(&mut self.bytes, self.whole, piece)?;
-        self.whole = whole;
-        self.broken = broken;
-        if let Some(place) = broken {
-            return Err(refused(place));
-        }
-        Ok(())
+        self.text.feed(piece)
     }
 
     /// The tokens of the whole text.
@@ -154,18 +52,9 @@ impl Lexer {
         ensures closed { IfOk result (λ found. IsClosed found) }
         ensures refused { IfErr result (λ fault. RefusesWhole self fault) }
     {
-        let Lexer {
-            bytes,
-            whole,
-            broken,
-        } = self;
-        if let Some(place) = broken {
-            return Err(refused(place));
-        }
-        match str::from_utf8(bytes.as_slice()) {
-            Ok(text) => Ok(tokens_of(alloc, text)?),
-            Err(_) => Err(refused(text_end(front(bytes.as_slice(), whole)))),
-        }
+        let Lexer { text } = self;
+        let characters = text.finish(alloc)?;
+        Ok(scan(alloc, characters.as_slice())?)
     }
 }
 
@@ -176,11 +65,8 @@ pub fn lex(alloc: Global, pieces: &[&[u8]]) -> Result<Tokens, Fault>
     ensures closed { IfOk result (λ found. IsClosed found) }
     ensures refused { IfErr result (λ fault. RefusesPieces (flat_map (λ piece. piece.now) pieces.now) fault) }
 {
-    let mut lexer = Lexer::new(alloc);
-    for piece in pieces {
-        lexer.feed(piece)?;
-    }
-    lexer.finish(alloc)
+    let characters = characters(alloc, pieces)?;
+    Ok(scan(alloc, characters.as_slice())?)
 }
 
 #[cfg(test)]

@@ -6,14 +6,12 @@
 //! Word(let) 1:1 0..3   Variable(X) 1:5 4..5   Symbol(=) 1:7 6..7   Atom(a) 2:1 13..16   End 2:4 16..16
 //! ```
 //!
-//! `feed` keeps the bytes and checks each piece as UTF-8 from the last whole character on, so a byte is looked at at most
-//! four times there, and a piece is refused as soon as no text begins with the bytes. `finish` decodes the text once and
-//! cuts it lexeme by lexeme: each function of a lexeme is given the characters that are left, and gives the kind and how many
-//! characters write it; each equals one definition of `specs/Tokens.antt`. Nothing is read again behind a lexeme, and the
-//! first bad token ends the list, so the time is linear. Beside the tokens it takes the bytes and four bytes a character.
+//! The characters come from utf8_text, which refuses bytes that are no text. `finish` cuts them lexeme by lexeme: each function
+//! of a lexeme is given the characters that are left, and gives the kind and how many characters write it; each equals one
+//! definition of `specs/Tokens.antt`. Nothing is read again behind a lexeme, and the first bad token ends the list, so the time
+//! is linear. Beside the tokens it takes the bytes and four bytes a character.
 //!
-//! The catch: a character that is cut by the end of a piece is no fault until the text ends there; and the bytes behind a bad
-//! token still have to be text, which is why the check stands in `feed` and not in the scan.
+//! The catch: the bytes behind a bad token still have to be text, which is why they are checked before the scan.
 //!
 //! What the contracts leave open is want of memory alone: `feed`, `finish`, `lex` and what they call may answer it at any time.
 #![tactic(auto)]
@@ -22,7 +20,6 @@ mod laws;
 mod lexer;
 mod listed;
 mod number;
-mod place;
 mod quoted;
 mod scan;
 mod token;

@@ -4,8 +4,8 @@ ghost use Rattle.core_lex.specs.LexerState.{IsNotEnd};
 ghost use Rattle.core_lex.specs.Tokens.{is_one_of, words, long_symbols, short_symbols, word_at, variable_at, symbol_at, bad};
 
 use crate::token::TokenKind;
-use core_chars::{front, name_in, name_len};
-use erl_base::NoMemory;
+use core_chars::{name_in, name_len};
+use erl_base::{NoMemory, front};
 use std::alloc::Global;
 
 const WORDS: [&str; 18] = [

@@ -4,7 +4,7 @@ ghost use Rattle.core_lex.specs.LexerState.{IsNotEnd};
 ghost use Rattle.core_lex.specs.Tokens.{atom_at, string_at, character_at};
 
 use crate::token::{Codes, TokenKind};
-use core_chars::{name_in, quoted_char, quoted_text};
+use core_chars::{name_in, quoted_char, quoted_in};
 use erl_base::{List, NoMemory};
 use std::alloc::Global;
 
@@ -22,6 +22,7 @@ fn codes_of(alloc: Global, text: &[char]) -> Result<Codes, NoMemory>
 pub fn atom(
     alloc: Global,
     spelled: &mut String,
+    unquoted: &mut Vec<char>,
     rest: &[char],
 ) -> Result<(Option<TokenKind>, usize), NoMemory>
     requires { 0 < length rest.now }
@@ -30,27 +31,31 @@ pub fn atom(
     ensures fits { IfOk result (λ lexeme. lexeme.1 ≤ length rest.now) }
     ensures not_end { IfOk result (λ lexeme. IsNotEnd lexeme.0) }
 {
-    match quoted_text(alloc, '\'', &rest[1..])? {
+    match quoted_in(unquoted, '\'', &rest[1..])? {
         None => Ok((Some(TokenKind::Bad), 1)),
-        Some((text, size)) => Ok((
-            Some(TokenKind::Atom(name_in(alloc, spelled, text.as_slice())?)),
+        Some(size) => Ok((
+            Some(TokenKind::Atom(name_in(alloc, spelled, unquoted.as_slice())?)),
             1 + size,
         )),
     }
 }
 
 #[tactic(auto, unfolding(crate::specs::Tokens::string_at))]
-pub fn string(alloc: Global, rest: &[char]) -> Result<(Option<TokenKind>, usize), NoMemory>
+pub fn string(
+    alloc: Global,
+    unquoted: &mut Vec<char>,
+    rest: &[char],
+) -> Result<(Option<TokenKind>, usize), NoMemory>
     requires { 0 < length rest.now }
     ensures value { IfOk result (λ lexeme. lexeme ≡ string_at rest.now) }
     ensures positive { IfOk result (λ lexeme. 0 < lexeme.1) }
     ensures fits { IfOk result (λ lexeme. lexeme.1 ≤ length rest.now) }
     ensures not_end { IfOk result (λ lexeme. IsNotEnd lexeme.0) }
 {
-    match quoted_text(alloc, '"', &rest[1..])? {
+    match quoted_in(unquoted, '"', &rest[1..])? {
         None => Ok((Some(TokenKind::Bad), 1)),
-        Some((text, size)) => Ok((
-            Some(TokenKind::Letters(codes_of(alloc, text.as_slice())?)),
+        Some(size) => Ok((
+            Some(TokenKind::Letters(codes_of(alloc, unquoted.as_slice())?)),
             1 + size,
         )),
     }

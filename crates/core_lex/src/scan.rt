@@ -6,18 +6,19 @@ ghost use Rattle.core_lex.specs.declared.token.Token.{Token};
 
 use crate::listed::{symbol, variable, word};
 use crate::number::{begins_number, number};
-use crate::place::{byte_len, place_after};
 use crate::quoted::{atom, character, string};
 use crate::token::{Token, TokenKind, Tokens};
-use core_chars::{behind, is_blank, is_capital, is_lower, line_len};
-use erl_base::{List, NoMemory, Place};
+use core_chars::{is_blank, is_capital, is_lower, line_len};
+use erl_base::{List, NoMemory, Place, behind};
 use std::alloc::Global;
+use utf8_text::{byte_len, place_after};
 
 // The kind of the token at the front, or `None` for a blank or a comment, and how many characters write it.
 #[tactic(auto, unfolding(crate::specs::Tokens::lexeme_at, crate::specs::Tokens::comment_at))]
 fn lexeme(
     alloc: Global,
     spelled: &mut String,
+    unquoted: &mut Vec<char>,
     rest: &[char],
 ) -> Result<(Option<TokenKind>, usize), NoMemory>
     requires { 0 < length rest.now }
@@ -43,10 +44,10 @@ fn lexeme(
         return Ok(number(rest));
     }
     if c == '\'' {
-        return atom(alloc, spelled, rest);
+        return atom(alloc, spelled, unquoted, rest);
     }
     if c == '"' {
-        return string(alloc, rest);
+        return string(alloc, unquoted, rest);
     }
     if c == '$' {
         return Ok(character(rest));
@@ -110,12 +111,13 @@ pub fn scan(alloc: Global, text: &[char]) -> Result<Tokens, NoMemory>
 {
     let mut found = List::new(alloc);
     let mut spelled = String::new(alloc);
+    let mut unquoted = Vec::new(alloc);
     let mut at = 0;
     let mut place = Place { line: 1, column: 1 };
     let mut byte = 0u64;
     while at < text.len() {
         let rest = behind(text, at);
-        let (kind, size) = lexeme(alloc, &mut spelled, rest)?;
+        let (kind, size) = lexeme(alloc, &mut spelled, &mut unquoted, rest)?;
         let lexeme = &rest[..size];
         let to = byte + byte_len(lexeme);
         if keep(&mut found, kind, place, byte, to)? {

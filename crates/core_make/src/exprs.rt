@@ -2,9 +2,8 @@
 ghost use Rattle.std.specs.Prelude.{◌≡◌, IfOk, IsOkAnd, None, Some};
 ghost use Rattle.core_form.specs.declared.tree.ExprForm.TheVariants as form;
 
-use crate::parts::{both, three};
 use core_form::{Binders, Clauses, Defs, Expr, ExprForm, Exprs, MapParts, Segments};
-use erl_base::{Boxed, FunKey, Name, NoMemory, Place};
+use erl_base::{Boxed, FunKey, Name, NoMemory, Place, both, three};
 use erl_term::Term;
 use std::alloc::Global;
 

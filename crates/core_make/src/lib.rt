@@ -8,5 +8,4 @@
 pub mod exprs;
 pub mod lists;
 pub mod nodes;
-mod parts;
 pub mod patterns;

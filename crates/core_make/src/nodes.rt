@@ -2,11 +2,10 @@
 ghost use Rattle.std.specs.Prelude.{◌≡◌, IfOk, IsOkAnd};
 ghost use Rattle.core_form.specs.declared.tree.Clause.{roll-Clause};
 
-use crate::parts::{both, three};
 use core_form::{
     Clause, Def, Defs, Expr, KeyPattern, MapPart, Module, Pattern, Patterns, SegPattern, Segment,
 };
-use erl_base::{Boxed, Duplicate, FunKey, Name, NoMemory, Place};
+use erl_base::{Boxed, Duplicate, FunKey, Name, NoMemory, Place, both, three};
 use erl_term::Term;
 use std::alloc::Global;
 

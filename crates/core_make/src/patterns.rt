@@ -2,9 +2,8 @@
 ghost use Rattle.std.specs.Prelude.{◌≡◌, IfOk, IsOkAnd};
 ghost use Rattle.core_form.specs.declared.tree.PatternForm.TheVariants as form;
 
-use crate::parts::both;
 use core_form::{KeyPatterns, Pattern, PatternForm, Patterns, SegPatterns};
-use erl_base::{Boxed, Name, NoMemory, Place};
+use erl_base::{Boxed, Name, NoMemory, Place, both};
 use erl_term::Term;
 use std::alloc::Global;
 

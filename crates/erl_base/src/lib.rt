@@ -1,7 +1,8 @@
-//! Names, places, refusals, and the list and box types that every other crate is built of.
+//! Names, places, refusals, the list and box types that every other crate is built of, and parts of slices and of wholes.
 //!
-//! A body that always answers want of memory meets the contracts of `push`, `Boxed::new`, `from_text` and every `copy`: no
-//! clause says when there is memory. The tests run each of these calls with ample memory and compare what it gives.
+//! A body that always answers want of memory meets the contracts of `push`, `Boxed::new`, `from_text`, `both`, `three` and every
+//! `copy`: no clause says when there is memory. The tests run each of these calls with ample memory and compare what it gives.
+//! `let_go` promises only that it ends: what it lets go of is not seen again.
 #![tactic(auto)]
 
 mod boxed;
@@ -10,7 +11,9 @@ mod ids;
 mod list;
 mod memory;
 mod name;
+mod parts;
 mod refusal;
+mod slices;
 
 pub use boxed::Boxed;
 pub use duplicate::Duplicate;
@@ -18,7 +21,9 @@ pub use ids::{BlockId, ChainId, FunKey, LabelId, NodeId, Place, SiteId, VarId};
 pub use list::{Bytes, List, Text};
 pub use memory::NoMemory;
 pub use name::Name;
+pub use parts::{both, let_go, three};
 pub use refusal::{Fault, Kind, LimitName, Outside, Refusal, ScopeFault};
+pub use slices::{behind, front};
 
 #[cfg(test)]
 mod tests;

@@ -1,4 +1,4 @@
-use crate::{Boxed, Duplicate, FunKey, List, Name, VarId};
+use crate::{Boxed, Duplicate, FunKey, List, Name, NoMemory, VarId, both, three};
 use std::cmp::Ordering;
 use std::test::Fail;
 
@@ -49,5 +49,19 @@ fn every_kind_of_value_is_copied(rt: HostRuntime) -> Result<(), Fail> {
     let copy: FunKey = Duplicate::copy(&key, alloc)?;
     assert!(rt; name.is(&key.name));
     assert!(rt; copy.is(&key));
+    Ok(())
+}
+
+#[test]
+fn a_whole_has_all_its_parts(rt: HostRuntime) -> Result<(), Fail> {
+    let (first, second) = both(Ok(1u32), Ok('é'))?;
+    assert_eq!(rt; first, 1);
+    assert_eq!(rt; second, 'é');
+    let (first, second, third) = three(Ok(1u32), Ok('é'), Ok(3u8))?;
+    assert_eq!(rt; first, 1);
+    assert_eq!(rt; second, 'é');
+    assert_eq!(rt; third, 3);
+    let missing: Result<u8, NoMemory> = Err(NoMemory);
+    assert!(rt; both(Ok(1u32), missing).is_err());
     Ok(())
 }

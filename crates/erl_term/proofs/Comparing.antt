@@ -1,5 +1,5 @@
 -- How the order of two terms comes from their parts.
-use Rattle.std.proofs.Common.{◌≡◌, ◌≢◌, ℕ, ◌≤◌, ◌<◌, refl, sym, ap, ap₂, ◌∙◌, subst, List, [], ◌∷◌, map, drop, get_or, ◌+◌, length, min, zero, suc, arith, IsTrue, Bool, true, false, not, ◌&&◌}
+use Rattle.std.proofs.Common.{◌≡◌, ◌≢◌, ℕ, ◌≤◌, ◌<◌, refl, sym, ap, ap₂, ◌∙◌, subst, List, [], ◌∷◌, map, drop, get_or, ◌+◌, length, min, zero, suc, arith, IsTrue, Bool, true, false, not}
 use Rattle.std.specs.declared.cmp.Ordering.{Ordering}
 use Rattle.std.specs.declared.cmp.Ordering.TheVariants.{Less, Equal, Greater}
 use Rattle.std.specs.Ordering.{nat_cmp, ordering_then, MatchOrdering}
@@ -8,7 +8,7 @@ use Rattle.std.specs.Cmp.Lexicographic.{slice_cmp}
 use Rattle.std.proofs.lemmas.Cmp.{ranked}
 use Rattle.std.proofs.lemmas.List.{drop_more}
 use Rattle.std.proofs.lemmas.Bool.Decides.{nat_tests}
-use Rattle.erl_term.specs.declared.term.Term.{Term, List as ListTerm, out-Term, map-Term, fold_out-Term}
+use Rattle.erl_term.specs.declared.term.Term.{Term, List as ListTerm, out-Term}
 use Rattle.erl_term.specs.declared.term.Pair.{Pair, fold_out-Pair}
 use Rattle.erl_term.specs.declared.term.Term.TheVariants.{outs-List}
 use Rattle.erl_term.specs.declared.term.Term.TheOpen.{Term-F}
@@ -16,7 +16,7 @@ use Rattle.erl_term.specs.declared.term.Term.TheOpen as form
 use Rattle.erl_term.specs.Term as Plain
 use Rattle.erl_term.specs.TermOrder.{compare, compare_all, compare_values, count, pair_count, rank}
 use Rattle.erl_term.specs.Terms.{list_of}
-use Rattle.erl_term.specs.View.{view, pair_view, view_step, pair_step}
+use Rattle.erl_term.specs.View.{view, view_step, pair_step}
 use Rattle.erl_term.specs.WellFormed.{Layout, layout, pair_normal, layout_step, pair_layout_step, pairs_normal, IsNormal}
 use Rattle.erl_term.specs.Comparing.{same_kind, same_kind_of, common, cells, rest, row, pair_row, values_normal, PairsNormal, ValuesNormal}
 use Rattle.erl_term.proofs.Forms.{seen, laid, view-out, layout-out, NoCell, left_true, right_true, both_true, tail_no_cell}

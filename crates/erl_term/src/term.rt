@@ -1,6 +1,8 @@
-ghost use Rattle.std.specs.Prelude.{◌≡◌, IfOk};
+ghost use Rattle.std.specs.Prelude.{◌≡◌, IfOk, IfErr, IsTrue, not};
+ghost use Rattle.erl_term.specs.WellFormed.{layout};
+ghost use Rattle.erl_term.specs.declared.term.Term.TheVariants as T;
 
-use erl_base::{Boxed, Bytes, Duplicate, List, Name, NoMemory, SiteId};
+use erl_base::{Boxed, Bytes, Duplicate, List, Name, NoMemory, SiteId, let_go};
 use std::alloc::Global;
 
 /// The class of a raise.
@@ -20,7 +22,7 @@ pub struct Bits {
 
 /// A value of Erlang with integers of 128 bits. A list holds its first items and what follows the last of them.
 #[cycle(term)]
-#[derive(Debug, Drop)]
+#[derive(Debug)]
 pub enum Term {
     Int(i128),
     Atom(Name),
@@ -104,6 +106,49 @@ impl Term {
             Term::Reference(number) => Ok(Term::Reference(*number)),
             Term::Port(number) => Ok(Term::Port(*number)),
             Term::RawTrace(class) => Ok(Term::RawTrace(*class)),
+        }
+    }
+
+    /// The items and the tail of a list, or the term where it is none.
+    pub fn into_list(self) -> Result<(Terms, Boxed<Term>), Term>
+        ensures list { IfOk result (λ parts. self ≡ T.List parts.0 parts.1) }
+        ensures same { IfErr result (λ term. term ≡ self) }
+        ensures no_list { IfErr result (λ term. IsTrue (not (layout term).listed)) }
+    {
+        match self {
+            Term::List(items, tail) => Ok((items, tail)),
+            other => Err(other),
+        }
+    }
+}
+
+// By hand, so that the crates above take it as it was proved here.
+impl Drop for Term {
+    #[cycle(drop)]
+    fn drop(self) {
+        match self {
+            Term::Int(_) => {}
+            Term::Atom(name) => let_go(name),
+            Term::Nil => {}
+            Term::List(items, tail) => {
+                let_go(items);
+                let_go(tail);
+            }
+            Term::Tuple(items) => let_go(items),
+            Term::Map(pairs) => let_go(pairs),
+            Term::Bits(bits) => let_go(bits),
+            Term::Fun(module, _, _, captured) => {
+                let_go(module);
+                let_go(captured);
+            }
+            Term::Extern(module, name, _) => {
+                let_go(module);
+                let_go(name);
+            }
+            Term::Pid(_) => {}
+            Term::Reference(_) => {}
+            Term::Port(_) => {}
+            Term::RawTrace(_) => {}
         }
     }
 }

@@ -4,10 +4,8 @@ use kernel_form::build::{
     body, boxed, boxed_tree, catch_of, either, fall, give, guarded, let_in, match_in, one_var,
     receive, segments, simple, step, switch, try_of, two_values, var,
 };
-use kernel_form::{
-    BinStep, Case, KExpr, KFun, KKeyPat, KPat, KPats, KSeg, KSegs, KSimple, Kernel, Row, SegRow,
-    Shape, Tree, TreeParts,
-};
+use kernel_form::{Case, KExpr, KFun, Kernel, Row, SegRow, Tree, TreeParts};
+use kernel_parts::{BinStep, KKeyPat, KPat, KPats, KSeg, KSegs, KSimple, Shape};
 use std::alloc::Global;
 use std::test::Fail;
 

@@ -3,21 +3,21 @@ use Rattle.std.specs.Prelude.{ℕ, List, [], ◌∷◌, map}
 use Rattle.erl_base.specs.declared.ids.VarId.{VarId}
 use Rattle.erl_term.specs.View as Terms
 use Rattle.bif_table.specs.View.{bif_view}
-use Rattle.kernel_form.specs.declared.value.KValue.{KValue}
-use Rattle.kernel_form.specs.declared.value.KValue.TheVariants as V
-use Rattle.kernel_form.specs.declared.value.KPair.{KPair}
-use Rattle.kernel_form.specs.declared.value.KPart.{KPart}
-use Rattle.kernel_form.specs.declared.value.KSimple.{KSimple}
-use Rattle.kernel_form.specs.declared.value.KSimple.TheVariants as S
-use Rattle.kernel_form.specs.declared.pattern.KPat.{KPat, fold-KPat}
-use Rattle.kernel_form.specs.declared.pattern.KSeg.{KSeg, fold-KSeg}
-use Rattle.kernel_form.specs.declared.pattern.KKeyPat.{KKeyPat, fold-KKeyPat}
-use Rattle.kernel_form.specs.declared.pattern.KPat.TheOpen.{KPat-F, KSeg-F, KKeyPat-F}
-use Rattle.kernel_form.specs.declared.pattern.KPat.TheOpen as pat
-use Rattle.kernel_form.specs.declared.shape.Shape.{Shape}
-use Rattle.kernel_form.specs.declared.shape.Shape.TheVariants as H
-use Rattle.kernel_form.specs.declared.shape.BinStep.{BinStep}
-use Rattle.kernel_form.specs.declared.shape.BinStep.TheVariants as B
+use Rattle.kernel_parts.specs.declared.value.KValue.{KValue}
+use Rattle.kernel_parts.specs.declared.value.KValue.TheVariants as V
+use Rattle.kernel_parts.specs.declared.value.KPair.{KPair}
+use Rattle.kernel_parts.specs.declared.value.KPart.{KPart}
+use Rattle.kernel_parts.specs.declared.value.KSimple.{KSimple}
+use Rattle.kernel_parts.specs.declared.value.KSimple.TheVariants as S
+use Rattle.kernel_parts.specs.declared.pattern.KPat.{KPat, fold-KPat}
+use Rattle.kernel_parts.specs.declared.pattern.KSeg.{KSeg, fold-KSeg}
+use Rattle.kernel_parts.specs.declared.pattern.KKeyPat.{KKeyPat, fold-KKeyPat}
+use Rattle.kernel_parts.specs.declared.pattern.KPat.TheOpen.{KPat-F, KSeg-F, KKeyPat-F}
+use Rattle.kernel_parts.specs.declared.pattern.KPat.TheOpen as pat
+use Rattle.kernel_parts.specs.declared.shape.Shape.{Shape}
+use Rattle.kernel_parts.specs.declared.shape.Shape.TheVariants as H
+use Rattle.kernel_parts.specs.declared.shape.BinStep.{BinStep}
+use Rattle.kernel_parts.specs.declared.shape.BinStep.TheVariants as B
 use Rattle.kernel_form.specs.declared.tree.Row.{Row}
 use Rattle.kernel_form.specs.declared.tree.KExpr.{KExpr, fold-KExpr}
 use Rattle.kernel_form.specs.declared.tree.Tree.{Tree, fold-Tree}

@@ -1,9 +1,8 @@
 // Expressions and trees taken apart by one level, for passes that build on with the parts: a pattern cannot move the parts
 // out of a value that has a drop of its own, but where its type is declared.
-use crate::shape::BinStep;
 use crate::tree::{Cases, KExpr, SegRows, Tree};
-use crate::value::{KSimple, KValue, KValues, Vars};
 use erl_base::{Boxed, VarId};
+use kernel_parts::{BinStep, KSimple, KValue, KValues, Vars};
 
 /// The parts of an expression, in the order of its own variants.
 #[derive(Drop)]

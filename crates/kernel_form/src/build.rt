@@ -3,10 +3,9 @@ ghost use Rattle.std.specs.Prelude.{◌≡◌, [], ◌∷◌, IfOk, map};
 ghost use Rattle.kernel_form.specs.Kernel as Plain;
 ghost use Rattle.kernel_form.specs.View.{numbers, value_view, simple_view, step_view, case_view, seg_row_view, cases, rows, view, tree_view};
 
-use crate::shape::BinStep;
 use crate::tree::{Cases, KExpr, SegRows, Tree};
-use crate::value::{KSimple, KValue, KValues, Vars};
 use erl_base::{Boxed, List, NoMemory, VarId};
+use kernel_parts::{BinStep, KSimple, KValue, KValues, Vars};
 use std::alloc::Global;
 
 pub fn var(number: u32) -> KValue

@@ -1,8 +1,8 @@
 // Functions, and the module that they make.
 use crate::tree::KExpr;
-use crate::value::Vars;
 use erl_base::{FunKey, List, Name, SiteId};
 use erl_term::Attributes;
+use kernel_parts::Vars;
 
 /// A function of a module, with the terms that it captured as its last parameters. `next` is above every variable of the
 /// module.

@@ -6,10 +6,8 @@ ghost use Rattle.kernel_form.specs.declared.tree.Case.{out-Case};
 ghost use Rattle.kernel_form.specs.declared.tree.SegRow.{out-SegRow};
 
 use crate::apart::{ExprParts, TreeParts};
-use crate::pattern::{KPats, KSegs};
-use crate::shape::{BinStep, Shape};
-use crate::value::{KSimple, KValue, KValues, Vars};
-use erl_base::{Boxed, List, VarId};
+use erl_base::{Boxed, List, VarId, let_go};
+use kernel_parts::{BinStep, KPats, KSegs, KSimple, KValue, KValues, Shape, Vars};
 
 /// `Let` has the variables, what gives their values, and the body. `Try` has the tried part, the variables and body for
 /// its values, and the variables and body for what it raises. `Receive` has its number, the variable of the message, its
@@ -221,6 +219,3 @@ impl Drop for Tree {
         }
     }
 }
-
-/// A field is dropped through this call, so that its drop is no part of the cycle's own.
-fn let_go<T: Drop>(_value: T) {}

@@ -9,9 +9,9 @@ ghost use Rattle.kernel_form.specs.declared.tree.SegRow.{roll-SegRow};
 ghost use Rattle.kernel_make.specs.Chains.{in_lets, in_node, in_nodes};
 
 use crate::nodes::{and_case, and_row, either, let_in, segments, step, switch};
-use crate::parts::{both, three};
-use erl_base::{Boxed, List, NoMemory, VarId};
-use kernel_form::{BinStep, Cases, KExpr, KSegs, SegRows, Shape, Tree, Vars};
+use erl_base::{Boxed, List, NoMemory, VarId, both, three};
+use kernel_form::{Cases, KExpr, SegRows, Tree};
+use kernel_parts::{BinStep, KSegs, Shape, Vars};
 use std::alloc::Global;
 
 /// A let without its body.

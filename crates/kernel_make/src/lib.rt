@@ -7,4 +7,3 @@
 
 pub mod chains;
 pub mod nodes;
-mod parts;

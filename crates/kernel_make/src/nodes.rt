@@ -5,12 +5,9 @@ ghost use Rattle.kernel_form.specs.declared.tree.Tree.TheVariants as T;
 ghost use Rattle.kernel_form.specs.declared.tree.Case.{roll-Case};
 ghost use Rattle.kernel_form.specs.declared.tree.SegRow.{roll-SegRow};
 
-use crate::parts::{both, three};
-use erl_base::{Boxed, NoMemory, VarId};
-use kernel_form::{
-    BinStep, Case, Cases, KExpr, KSegs, KSimple, KValue, KValues, SegRow, SegRows, Shape, Tree,
-    Vars,
-};
+use erl_base::{Boxed, NoMemory, VarId, both, three};
+use kernel_form::{Case, Cases, KExpr, SegRow, SegRows, Tree};
+use kernel_parts::{BinStep, KSegs, KSimple, KValue, KValues, Shape, Vars};
 use std::alloc::Global;
 
 pub fn values(alloc: Global, values: Result<KValues, NoMemory>) -> Result<Boxed<KExpr>, NoMemory>

@@ -80,7 +80,7 @@ fn copies_of_operands(rt: HostRuntime) -> Result<(), Fail> {
     let var = Arg::Var(VarId(7)).copy(alloc)?;
     assert!(rt; matches!(var, Arg::Var(VarId(7))));
     let literal: Arg = Duplicate::copy(&Arg::Lit(Term::Nil), alloc)?;
-    assert!(rt; matches!(literal, Arg::Lit(Term::Nil)));
+    assert!(rt; matches!(&literal, Arg::Lit(Term::Nil)));
     Ok(())
 }
 

@@ -20,22 +20,9 @@ pub(crate) fn joined(alloc: Global, items: Terms, tail: Term) -> Result<Term, No
     ensures value { IfOk result (λ term. view term ≡ list_of (map view items) (view tail)) }
     ensures well_formed { IfOk result (λ term. IsWellFormed term) }
 {
-    match tail {
-        Term::List(more, last) => longer(items, more, last),
-        Term::Int(number) => closed(alloc, items, Term::Int(number)),
-        Term::Atom(name) => closed(alloc, items, Term::Atom(name)),
-        Term::Nil => closed(alloc, items, Term::Nil),
-        Term::Tuple(terms) => closed(alloc, items, Term::Tuple(terms)),
-        Term::Map(pairs) => closed(alloc, items, Term::Map(pairs)),
-        Term::Bits(bits) => closed(alloc, items, Term::Bits(bits)),
-        Term::Fun(home, site, arity, captured) => {
-            closed(alloc, items, Term::Fun(home, site, arity, captured))
-        }
-        Term::Extern(home, name, arity) => closed(alloc, items, Term::Extern(home, name, arity)),
-        Term::Pid(number) => closed(alloc, items, Term::Pid(number)),
-        Term::Reference(number) => closed(alloc, items, Term::Reference(number)),
-        Term::Port(number) => closed(alloc, items, Term::Port(number)),
-        Term::RawTrace(class) => closed(alloc, items, Term::RawTrace(class)),
+    match tail.into_list() {
+        Ok((more, last)) => longer(items, more, last),
+        Err(tail) => closed(alloc, items, tail),
     }
 }
 

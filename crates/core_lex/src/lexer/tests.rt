@@ -1,5 +1,6 @@
 use super::*;
 use crate::token::TokenKind;
+use erl_base::{Kind, NoMemory, Place, Refusal};
 
 fn told(alloc: Global, kind: &TokenKind) -> Result<String, NoMemory> {
     Ok(match kind {

@@ -1,5 +1,5 @@
 use Rattle.std.proofs.Common.{◌≡◌, ◌-◌, ◌+◌, ◌*◌, ◌≤◌, ◌++◌, length, drop}
-use Rattle.core_lex.specs.Places.{start}
+use Rattle.utf8_text.specs.Places.{start}
 use Rattle.core_lex.specs.LexerState.{AreOpen}
 use Rattle.core_lex.specs.Tokens.{tokens_from}
 use Rattle.core_lex.proofs.scan.scan.Given as goal

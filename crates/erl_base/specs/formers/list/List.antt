@@ -1,6 +1,6 @@
 -- `List` as a type that may hold the type that holds it.
 use mathlib.Core.Path.{◌≡◌, refl, sym, subst}
-use Prim.Native.Nat.{ℕ, ◌≤◌}
+use Prim.Native.Nat.{◌≤◌}
 use Rattle.std.proofs.Math.Bridge.{le_prop}
 use Rattle.std.proofs.lemmas.List.{length-map}
 use mathlib.Core.List.{List, []}

@@ -1,9 +1,0 @@
-use Rattle.std.proofs.lemmas.Result.{err_from_is_err_and}
-use Rattle.core_lex.proofs.Fed.{pieces_refused}
-use Rattle.core_lex.proofs.lexer.lex.Goals as goal
-
-pub returns-in_err-feed-clause-refused : goal.returns-in_err-feed-clause-refused
-returns-in_err-feed-clause-refused c =
-    let p = err_from_is_err_and c.from_residual.result c.from_residual.ensures.1 in
-    pieces_refused c.from_residual.result p.0 _ c.args.pieces.now c.loop-piece.piece-index _ c.loop-piece.lexer p.1 p.2 c.loop-piece-test.true c.loop-piece.invariant
-    c.in_err-feed.ensures.refused

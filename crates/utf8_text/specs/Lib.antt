@@ -1,0 +1,3 @@
+pub mod PiecesState
+pub mod Places
+pub mod Utf8Text
