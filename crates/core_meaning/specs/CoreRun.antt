@@ -13,12 +13,12 @@ use Rattle.core_form.specs.Scope.{Use, function_of, numbers_of}
 use Rattle.core_form.specs.Sites.{Site, inside, param_numbers, module_scope, module_sites}
 use Rattle.core_meaning.specs.PassedOnTail.{Param, all_reached}
 use Rattle.core_meaning.specs.ReceiveCost.{examined}
-use Rattle.core_meaning.specs.Calls.{Activation}
+use Rattle.core_meaning.specs.Calls.{Invocation}
 use Rattle.core_meaning.specs.EvaluationContext.{holding}
 use Rattle.core_meaning.specs.Evaluation.{eval}
 
 -- a function's body, with its arguments and captured terms
-unfoldable pub run_site : Activation → Option Site → Values → M Term
+unfoldable pub run_site : Invocation → Option Site → Values → M Term
 unfolding eval
 run_site here None vs = fail T.error (word (codes "undef"))
 run_site here (Some x) vs = one (eval here x.body (record {

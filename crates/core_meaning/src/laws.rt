@@ -1,5 +1,5 @@
 ghost use Rattle.core_form.specs.Core.{Clauses, Pattern, Patterns};
-ghost use Rattle.core_meaning.specs.Calls.{Activation};
+ghost use Rattle.core_meaning.specs.Calls.{Invocation};
 ghost use Rattle.core_meaning.specs.EvaluationContext.{EvaluationContext};
 ghost use Rattle.core_meaning.specs.Evaluation.{choose};
 ghost use Rattle.core_meaning.specs.PatternMatch.{AllMatch, Matches, match_all, matches};
@@ -23,7 +23,7 @@ pub fn matching_is_the_relation()
 /// The clause that is chosen is the first that accepts.
 #[tactic(auto, using(crate::proofs::Selecting::chosen_exactly))]
 pub fn the_first_clause_that_accepts_is_chosen()
-    ensures { (here : Activation) (cs : Clauses) (vs : Values) (c : EvaluationContext) (body : M Values) → ((choose here cs vs c).body ≡ Some body) ↔ Chosen here cs vs c body }
+    ensures { (here : Invocation) (cs : Clauses) (vs : Values) (c : EvaluationContext) (body : M Values) → ((choose here cs vs c).body ≡ Some body) ↔ Chosen here cs vs c body }
 {}
 
 /// A receive takes the first message in the order of the mailbox that a clause accepts; where there is none, it looks for

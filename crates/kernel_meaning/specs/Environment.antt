@@ -45,7 +45,7 @@ abbrev pub read_pairs : Env → List MapPair → List Put
 read_pairs env [] = []
 read_pairs env (p ∷ ps) = record { key = read env p.key; value = read env p.value; exact = p.exact } ∷ read_pairs env ps
 
-abbrev pub read_parts : Env → List Part → List Core.Part
+abbrev pub read_parts : Env → List Part → List Core.BuiltSegment
 read_parts env [] = []
 read_parts env (p ∷ ps) = record { shape = p.shape; value = read env p.value; size = read env p.size } ∷ read_parts env ps
 
@@ -72,6 +72,6 @@ abbrev pub reference_of : List Mark → ℕ → Option ℕ
 reference_of [] n = None
 reference_of (m ∷ ms) n = if eqb n m.receive then Some m.reference else reference_of ms n
 
-abbrev pub is_reference : List Mark → ℕ → Bool
-is_reference [] x = false
-is_reference (m ∷ ms) x = eqb x m.reference || is_reference ms x
+abbrev pub is_marking_variable : List Mark → ℕ → Bool
+is_marking_variable [] x = false
+is_marking_variable (m ∷ ms) x = eqb x m.reference || is_marking_variable ms x

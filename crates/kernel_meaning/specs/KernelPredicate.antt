@@ -98,8 +98,8 @@ abbrev pub segs_scoped : List ℕ → Segs → Bool
 segs_scoped xs no_seg = true
 segs_scoped xs (and_seg s ss) = seg_scoped xs s && segs_scoped (bound_by_seg s ++ xs) ss
 
-abbrev pub is_bits : Seg → Bool
-is_bits (seg q v h) = h.is_binary
+abbrev pub is_binary_seg : Seg → Bool
+is_binary_seg (seg q v h) = h.is_binary
 
 -- what a step leaves beside terms: a context, or a position of a context
 pub data Point : Type 0 where
@@ -118,8 +118,8 @@ has_position p c (position q d ∷ cs) = eqb p q && eqb c d || has_position p c 
 
 abbrev pub step_scoped : List ℕ → List Point → BinStep → Bool
 step_scoped xs cs (start x c) = among x xs
-step_scoped xs cs (integer c s) = has_context c cs && not (is_bits s) && seg_scoped xs s
-step_scoped xs cs (take_bits c s) = has_context c cs && is_bits s && seg_scoped xs s
+step_scoped xs cs (integer c s) = has_context c cs && not (is_binary_seg s) && seg_scoped xs s
+step_scoped xs cs (take_bits c s) = has_context c cs && is_binary_seg s && seg_scoped xs s
 step_scoped xs cs (done c) = has_context c cs
 step_scoped xs cs (mark c p) = has_context c cs
 step_scoped xs cs (back c p) = has_context c cs && has_position p c cs

@@ -18,11 +18,11 @@ with_bindings env [] = env
 with_bindings env (b ∷ bs) = with_bindings (with_value env b.0 b.1) bs
 
 -- a segment's value is anything, a variable or a literal
-abbrev pub match_segment : Pattern → Term → Option Bindings
-match_segment any t = Some []
-match_segment (bind x) t = Some ((x, t) ∷ [])
-match_segment (known u) t = if same_term u t then Some [] else None
-match_segment _ t = None
+abbrev pub segment_binds : Pattern → Term → Option Bindings
+segment_binds any t = Some []
+segment_binds (bind x) t = Some ((x, t) ∷ [])
+segment_binds (known u) t = if same_term u t then Some [] else None
+segment_binds _ t = None
 
 -- what later sizes of the same binary see
 abbrev pub with_segment : Env → Pattern → Term → Env
@@ -35,7 +35,7 @@ segments_of no_seg = []
 segments_of (and_seg (seg q v h) ss) = record {
   shape = h;
   size = λ env. Some (read env v);
-  binds = match_segment q;
+  binds = segment_binds q;
   shows = λ t env. with_segment env q t;
 } ∷ segments_of ss
 
@@ -69,9 +69,9 @@ abbrev pub made : List ℕ → Shape → Pattern → ℕ
 made hs h (bind x) = if h.is_binary && not (among x hs) then 1 else 0
 made hs h _ = 0
 
-abbrev pub pattern_count : Patterns → ℕ
-pattern_count no_pattern = 0
-pattern_count (and_pattern q qs) = 1 + pattern_count qs
+abbrev pub patterns_in : Patterns → ℕ
+patterns_in no_pattern = 0
+patterns_in (and_pattern q qs) = 1 + patterns_in qs
 
 module _ (hs : List ℕ) where
   -- of each segment
@@ -83,7 +83,7 @@ module _ (hs : List ℕ) where
     abbrev mutual
       pub cuts : Pattern → Term → ℕ
       cuts (cons_like p q) (T.cons x y) = cuts p x + cuts q y
-      cuts (tuple_like ps) (T.tuple ts) = if eqb (pattern_count ps) (count ts) then all_cuts ps ts else 0
+      cuts (tuple_like ps) (T.tuple ts) = if eqb (patterns_in ps) (count ts) then all_cuts ps ts else 0
       cuts (map_like ks) (T.map ps) = key_cuts ks ps
       cuts (bits_like ss) (T.bits bs) = seg_cuts (each_made ss) (segments_of ss) env bs
       cuts (alias x q) t = cuts q t

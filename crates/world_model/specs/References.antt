@@ -59,6 +59,6 @@ standing cs [] = record { bound = []; choices = cs; low = 0 }
 standing cs (n ∷ ns) = after_note n (standing cs ns)
 
 -- how many messages stand before the first one with at least this serial
-abbrev pub place_of : ℕ → List Message → ℕ
-place_of n [] = 0
-place_of n (m ∷ ms) = if leb n m.serial then 0 else suc (place_of n ms)
+abbrev pub save_place : ℕ → List Message → ℕ
+save_place n [] = 0
+save_place n (m ∷ ms) = if leb n m.serial then 0 else suc (save_place n ms)
