@@ -3,7 +3,6 @@ use Rattle.std.specs.Prelude.{ℕ, zero, suc, ◌+◌, ◌%◌, List, [], ◌∷
 use Rattle.erl_base.specs.Names.{same_name}
 use Rattle.erl_term.specs.Term as T
 use Rattle.erl_term.specs.Segments.{Shape, joined, built, taken_size, segment_value}
-use Rattle.erl_term.specs.Term.{Term}
 use Rattle.step_machine.specs.Steps.{goes, bad, notes, sub_binary}
 use Rattle.beam_table.specs.Code as C
 use Rattle.beam_table.specs.Calls.{badarg}

@@ -1,7 +1,7 @@
 -- Moves, frames and heap room, building, and taking apart.
 use Rattle.std.specs.Prelude.{ℕ, suc, ◌+◌, List, [], ◌∷◌, length, map, slice_get, take, drop, replicate, Bool, not, ◌&&◌, eqb, Option, Some, None, if◌then◌else◌, codes}
 use Rattle.erl_term.specs.Term as T
-use Rattle.erl_term.specs.Term.{Term, Pairs, more, Class}
+use Rattle.erl_term.specs.Term.{Term, Pairs}
 use Rattle.erl_term.specs.TermOrder.{same_term}
 use Rattle.erl_term.specs.Terms.{terms, listed, value_at, is_there, tagged, put}
 use Rattle.bif_table.specs.BuiltinAnswer.{Answer, value, raised}

@@ -17,8 +17,9 @@ use Rattle.world_model.specs.Receive.{Timeout, now, in', wrong, timeout_of, with
 use Rattle.world_model.specs.Requests.{send_to}
 use Rattle.step_machine.specs.Bodies.{Here, calling}
 use Rattle.ssa_form.specs.Ssa as Ssa
-use Rattle.ssa_form.specs.Ssa.{Arg, var, lit, Op, Set}
-use Rattle.ssa_form.specs.Checks.{holds, compare_holds, has_keys}
+use Rattle.ssa_form.specs.Ssa.{Arg, var, lit, Op}
+use Rattle.bif_table.specs.TermTests.{compare_holds}
+use Rattle.ssa_form.specs.Checks.{holds, has_keys}
 use Rattle.ssa_form.specs.Storage.{Held, unset, term, context, position, marker, Context, Leaving, calls, ends_body, always_raises, Storage, Frame, After, on, pick, up, over, bad, Mode, plain, tail, jump, tests, Around, in_window, go_on, when, if_some, outside, inside, kept}
 use Rattle.ssa_form.specs.Values.{terms_of, handed, takes, remote, raises_always, applied, raise_again, puts_of, parts_of, badarg, rest_of, moved, is_tail}
 use Rattle.ssa_form.specs.Markers.{standing, place_used}

@@ -6,7 +6,8 @@ use Rattle.erl_term.specs.Term.{Term, more, none}
 use Rattle.erl_term.specs.Terms.{Values, listed, list_of, word, tagged}
 use Rattle.erl_term.specs.Segments.{Shape, built, joined}
 use Rattle.bif_table.specs.BuiltinAnswer.{answer}
-use Rattle.bif_table.specs.Builtins.{lookup, lookup_raising}
+use Rattle.bif_table.specs.Builtins as B
+use Rattle.bif_table.specs.Builtins.{lookup}
 use Rattle.world_model.specs.Run.{M, ◌>>=◌, fail}
 use Rattle.world_model.specs.Meaning.{single}
 use Rattle.world_model.specs.MapUpdate.{Put}
@@ -101,7 +102,7 @@ remote own _ _ vs = fail T.error badarg
 -- a function of the module erlang that only raises
 abbrev pub raises_always : Term → Term → ℕ → Bool
 raises_always (T.atom m) (T.atom f) n =
-    same_name m (codes "erlang") && elim (lookup_raising f n) [ None ↦ false | Some b ↦ true ]
+    same_name m (codes "erlang") && B.raises_always f n
 raises_always _ _ n = false
 
 abbrev pub badarity : Term → Values → M Values
