@@ -1,9 +1,9 @@
 -- Well-formed bodies.
-use Rattle.std.specs.Prelude.{◌≡◌, ◌≢◌, ℕ, List, [], ◌∷◌, ◌++◌, Some, None, Option, IsTrue, IsFalse, Bool, true, false, not, ◌&&◌, ◌||◌, eqb, leb, length, if◌then◌else◌}
+use Rattle.std.specs.Prelude.{◌≡◌, ◌≢◌, ℕ, List, [], ◌∷◌, ◌++◌, Some, None, Option, IsTrue, IsFalse, Bool, true, false, not, ◌&&◌, ◌||◌, eqb, leb, length, if◌then◌else◌, slice_get}
 use Rattle.ssa_form.specs.Ssa.{Arg, Op, try_end, landing, catch_end, call_local, Set, Last, succeeded, ret, Phi, Block, Body, block_at}
 use Rattle.ssa_form.specs.Storage.{Handler, Mode}
 use Rattle.ssa_form.specs.SsaRun.{is_tag, from_edge, lands, ends_catch}
-use Rattle.ssa_form.specs.Values.{takes}
+use Rattle.world_model.specs.RemoteCalls.{takes}
 use Rattle.ssa_form.specs.SetFacts.{dst_vars, among, all_among, none_among, in_form, breaks_cycle, is_peek, is_try_start, may_raise}
 use Rattle.ssa_form.specs.Flow.{Place, place, set_at, last_at, phis_at, phi_vars, Effect, Step, Way, Reached, Leads, Passing}
 use Rattle.ssa_form.specs.Liveness.{used_at, values_at, lands_first}
@@ -135,7 +135,7 @@ pub record WellFormed (b : Body) : Type 0 where
 
 -- every local call has as many arguments as its function has parameters
 abbrev pub call_fits : List ℕ → Op → ℕ → Bool
-call_fits as' (call_local n) k = takes as' n k
+call_fits as' (call_local n) k = takes (slice_get as' n) k
 call_fits as' op k = true
 
 abbrev pub CallsFit : List ℕ → Body → Type 0
