@@ -18,12 +18,13 @@ use Rattle.world_model.specs.References.{Standing, after_note, standing, place_o
 use Rattle.world_model.specs.RemoteCalls.{takes, call_terms, apply_term, raise_again}
 use Rattle.world_model.specs.Requests.{badarg, send_to}
 use Rattle.step_machine.specs.Bodies.{Here, calling}
+use Rattle.step_machine.specs.Frames.{MatchContext, moved, rest_of}
 use Rattle.ssa_form.specs.Ssa as Ssa
 use Rattle.ssa_form.specs.Ssa.{Arg, var, lit, Op}
 use Rattle.bif_table.specs.TermTests.{compare_holds}
 use Rattle.ssa_form.specs.Checks.{holds, has_keys}
-use Rattle.ssa_form.specs.Storage.{Held, unset, term, context, position, marker, Context, Leaving, calls, ends_body, always_raises, Storage, Frame, After, on, pick, up, over, bad, Mode, plain, tail, jump, tests, Around, in_window, go_on, when, if_some, outside, inside, kept}
-use Rattle.ssa_form.specs.Values.{terms_of, handed, raises_always, callees, puts_of, parts_of, rest_of, moved, is_tail}
+use Rattle.ssa_form.specs.Storage.{Held, unset, term, context, position, marker, Leaving, calls, ends_body, always_raises, Storage, Frame, After, on, pick, up, over, bad, Mode, plain, tail, jump, tests, Around, in_window, go_on, when, if_some, outside, inside, kept}
+use Rattle.ssa_form.specs.Values.{terms_of, handed, raises_always, callees, puts_of, parts_of, is_tail}
 
 module _ {S : Type 0} (o : Storage S) (around : Around) (here : Here) where
   abbrev pub held : Frame S → Arg → Held
@@ -155,15 +156,15 @@ module _ {S : Type 0} (o : Storage S) (around : Around) (here : Here) where
   start_does mode dst (term t ∷ []) f s = asked mode false f s
   start_does mode dst _ f s = bad
 
-  abbrev pub with_context : Frame S → Held → (ℕ → Context → After S) → After S
+  abbrev pub with_context : Frame S → Held → (ℕ → MatchContext → After S) → After S
   with_context f (context n) k = if_some (slice_get f.contexts n) (k n)
   with_context f _ k = bad
 
-  abbrev pub at_context : Frame S → List Held → (Context → After S) → After S
+  abbrev pub at_context : Frame S → List Held → (MatchContext → After S) → After S
   at_context f (h ∷ []) k = with_context f h λ n w. k w
   at_context f _ k = bad
 
-  abbrev pub took : Mode → ℕ → Context → Option ℕ → Frame S → State → (List Bool → Frame S → After S) → After S
+  abbrev pub took : Mode → ℕ → MatchContext → Option ℕ → Frame S → State → (List Bool → Frame S → After S) → After S
   took mode n w None f s k = asked mode false f s
   took mode n w (Some j) f s k = k (take j (rest_of w)) (record f { contexts = moved n (w.at + j) f.contexts })
 

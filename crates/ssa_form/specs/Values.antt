@@ -1,5 +1,5 @@
 -- Values on their way into operations and calls.
-use Rattle.std.specs.Prelude.{ℕ, zero, suc, List, [], ◌∷◌, slice_get, drop, Bool, true, false, not, ◌&&◌, ◌||◌, eqb, Option, Some, None, if◌then◌else◌, codes}
+use Rattle.std.specs.Prelude.{ℕ, suc, List, [], ◌∷◌, slice_get, Bool, true, false, not, ◌&&◌, ◌||◌, eqb, Option, Some, None, if◌then◌else◌, codes}
 use Rattle.erl_base.specs.Names.{same_name}
 use Rattle.erl_term.specs.Term as T
 use Rattle.erl_term.specs.Term.{Term}
@@ -11,7 +11,8 @@ use Rattle.world_model.specs.Meaning.{single}
 use Rattle.world_model.specs.MapUpdate.{Put}
 use Rattle.world_model.specs.RemoteCalls.{Callees}
 use Rattle.step_machine.specs.Bodies.{Here, calling}
-use Rattle.ssa_form.specs.Storage.{Held, term, context, Context, Around, Mode, tail}
+use Rattle.step_machine.specs.Frames.{MatchContext, rest_of}
+use Rattle.ssa_form.specs.Storage.{Held, term, context, Around, Mode, tail}
 
 abbrev pub is_tail : Mode → Bool
 is_tail tail = true
@@ -26,17 +27,6 @@ also _ _ = None
 abbrev pub terms_of : List Held → Option Values
 terms_of [] = Some []
 terms_of (h ∷ hs) = also h (terms_of hs)
-
--- Contexts.
-
-abbrev pub rest_of : Context → List Bool
-rest_of w = drop w.at w.bits
-
--- context n at another position
-abbrev pub moved : ℕ → ℕ → List Context → List Context
-moved n p [] = []
-moved zero p (w ∷ ws) = record w { at = p } ∷ ws
-moved (suc n) p (w ∷ ws) = w ∷ moved n p ws
 
 -- Local calls. A context that is handed on stands for the rest of its bits. Only a call that ends the body hands one on,
 -- once, and only at a parameter where one may come.
@@ -53,11 +43,11 @@ abbrev pub has_context : ℕ → List Held → Bool
 has_context n [] = false
 has_context n (h ∷ hs) = is_context n h || has_context n hs
 
-abbrev pub rest_in : Option Context → Option Term
+abbrev pub rest_in : Option MatchContext → Option Term
 rest_in None = None
 rest_in (Some w) = Some (T.bits (rest_of w))
 
-abbrev pub one_handed : Bool → List Context → Held → List Held → Option Term
+abbrev pub one_handed : Bool → List MatchContext → Held → List Held → Option Term
 one_handed may cs (term t) hs = Some t
 one_handed may cs (context n) hs = if may && not (has_context n hs) then rest_in (slice_get cs n) else None
 one_handed may cs _ hs = None
@@ -66,12 +56,12 @@ abbrev pub with_term : Option Term → Option Values → Option Values
 with_term (Some t) (Some ts) = Some (t ∷ ts)
 with_term _ _ = None
 
-abbrev pub handed_from : ℕ → Bool → List Context → List (ℕ × ℕ) → ℕ → List Held → Option Values
+abbrev pub handed_from : ℕ → Bool → List MatchContext → List (ℕ × ℕ) → ℕ → List Held → Option Values
 handed_from i ends cs reached n [] = Some []
 handed_from i ends cs reached n (h ∷ hs) =
     with_term (one_handed (ends && is_reached reached n i) cs h hs) (handed_from (suc i) ends cs reached n hs)
 
-abbrev pub handed : Bool → List Context → List (ℕ × ℕ) → ℕ → List Held → Option Values
+abbrev pub handed : Bool → List MatchContext → List (ℕ × ℕ) → ℕ → List Held → Option Values
 handed ends cs reached n hs = handed_from 0 ends cs reached n hs
 
 -- Calls of any module's functions and of terms.
