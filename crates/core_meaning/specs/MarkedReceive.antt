@@ -1,10 +1,11 @@
 -- Receives that can accept no message but one that holds a new reference (this project's own).
 use Rattle.std.specs.Prelude.{ℕ, List, [], ◌∷◌, length, Bool, true, false, ◌&&◌, ◌||◌, eqb, Option, Some, None, codes}
+use Rattle.erl_base.specs.Lists.{among}
 use Rattle.erl_base.specs.Names.{same_name}
 use Rattle.erl_term.specs.Term as T
 use Rattle.core_form.specs.declared.tree.Binder.{Binder}
 use Rattle.core_form.specs.Core.{Expr, var, let_in, case, call, try, receive, Exprs, no_expr, and_expr, Clauses, no_clause, and_clause, clause, any, known, Patterns, no_pattern, and_pattern}
-use Rattle.core_form.specs.Scope.{Scope, binding, with_names, names_of, numbers_from, bound_all, among}
+use Rattle.core_form.specs.Scope.{Scope, binding, with_names, names_of, numbers_from, bound_all}
 use Rattle.core_form.specs.Walks.{literal_name, calls_erlang, makes_reference, with_let, within}
 
 -- whether a name's binding has this number

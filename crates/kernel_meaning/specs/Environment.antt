@@ -64,10 +64,6 @@ pub record Setting : Type 0 where
 abbrev pub width : List ℕ → ℕ → ℕ
 width ws site = elim (slice_get ws site) [ None ↦ 0 | Some k ↦ k ]
 
-abbrev pub among : ℕ → List ℕ → Bool
-among x [] = false
-among x (y ∷ ys) = eqb x y || among x ys
-
 abbrev pub reference_of : List Mark → ℕ → Option ℕ
 reference_of [] n = None
 reference_of (m ∷ ms) n = if eqb n m.receive then Some m.reference else reference_of ms n

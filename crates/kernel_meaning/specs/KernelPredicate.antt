@@ -1,6 +1,7 @@
 -- Which functions in kernel form are well formed: what the construction of blocks may count on (this project's own).
 use Rattle.std.specs.Prelude.{◌≡◌, ◌<◌, ℕ, List, [], ◌∷◌, ◌++◌, length, slice_get, Bool, true, false, not, ◌&&◌, ◌||◌, eqb, leb, Some, IsTrue}
 use Rattle.std.specs.List.{All, Contains}
+use Rattle.erl_base.specs.Lists.{among}
 use Rattle.erl_term.specs.Term as T
 use Rattle.erl_term.specs.Term.{Term}
 use Rattle.erl_term.specs.TermOrder.{same_term}
@@ -8,7 +9,7 @@ use Rattle.erl_term.specs.Terms.{listed}
 use Rattle.bif_table.specs.Builtins.{arity_of}
 use Rattle.world_model.specs.RemoteCalls.{takes}
 use Rattle.kernel_form.specs.Kernel.{Value, var, lit, MapPair, Part, Simple, value, cons, tuple, map_put, bits, make_fun, bif, local, apply, remote, send, trace, raise, failing, any, bind, known, Seg, seg, Segs, no_seg, and_seg, Shape, is, is_cons, is_tuple, map_has, BinStep, start, integer, take_bits, done, mark, back, Expr, values, simple, let_in, match_in, try, catch, receive, Tree, body, fall, either_in, switch, segments, step, guarded, case, Cases, no_case, and_case, seg_row, SegRows, no_row, and_row, Fun}
-use Rattle.kernel_meaning.specs.Environment.{width, among}
+use Rattle.kernel_meaning.specs.Environment.{width}
 use Rattle.kernel_meaning.specs.KernelRun.{widths}
 use Rattle.kernel_meaning.specs.Windows.{window_fits}
 use Rattle.kernel_meaning.specs.Walks.{gathered, nothing, binders, bound_by_seg, bound_by_segs, receives}

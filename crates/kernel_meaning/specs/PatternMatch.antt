@@ -1,6 +1,7 @@
 -- When a pattern matches a term, what it binds, and how many sub-binaries the trying may make (Core Erlang 1.0.3,
 -- section 5: pattern matching; binaries as OTP 25; the count is this project's own).
 use Rattle.std.specs.Prelude.{ℕ, ◌+◌, List, [], ◌∷◌, not, ◌&&◌, eqb, Option, Some, None, if◌then◌else◌}
+use Rattle.erl_base.specs.Lists.{among}
 use Rattle.erl_term.specs.Term as T
 use Rattle.erl_term.specs.Term.{Term, Terms, none, more, Pairs}
 use Rattle.erl_term.specs.TermOrder.{same_term, count}
@@ -8,7 +9,7 @@ use Rattle.erl_term.specs.Terms.{value_at}
 use Rattle.erl_term.specs.Segments.{Shape}
 use Rattle.core_meaning.specs.SegmentMatch.{if_there, both, also, Segment, match_segs, seg_cuts}
 use Rattle.kernel_form.specs.Kernel.{Pattern, any, bind, known, cons_like, tuple_like, map_like, bits_like, alias, Patterns, no_pattern, and_pattern, key_pattern, KeyPatterns, no_key, and_key, seg, Segs, no_seg, and_seg}
-use Rattle.kernel_meaning.specs.Environment.{Env, with_value, read, among}
+use Rattle.kernel_meaning.specs.Environment.{Env, with_value, read}
 
 abbrev pub Bindings : Type 0
 Bindings = List (ℕ × Term)
