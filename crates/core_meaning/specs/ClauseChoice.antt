@@ -42,6 +42,7 @@ guarded r body rest = and_cuts (sub_binaries r.0.notes) (taken_if (is_true r.1) 
 
 -- A case without a clause.
 
+-- the reason that it raises: one value, or a tuple of all
 abbrev pub clause_reason : Values → Term
 clause_reason (t ∷ []) = tagged (codes "case_clause") t
 clause_reason vs = tagged (codes "case_clause") (T.tuple (terms vs))

@@ -21,6 +21,7 @@ use Rattle.core_meaning.specs.SegmentShape.{shape_of}
 use Rattle.core_meaning.specs.SegmentMatch.{if_there}
 use Rattle.core_meaning.specs.PatternMatch.{match_all}
 use Rattle.core_meaning.specs.MarkedReceive.{is_marking, marked_with}
+use Rattle.core_meaning.specs.PassedOnTail.{ClauseUse}
 use Rattle.core_meaning.specs.SubBinaries.{is_made, all_cuts}
 use Rattle.core_meaning.specs.Calls.{Invocation, own_functions, primitive}
 use Rattle.core_meaning.specs.EvaluationContext.{EvaluationContext, inner, past, captured_terms, bind, value_of}
@@ -85,7 +86,8 @@ module _ (here : Invocation) where
         one (eval e (past (sites_in_parts ps) (inner c))) λ t.
         put_all qs t
     eval (binary p ss) c = eval_segments ss (inner c) >>= λ xs. bits_or_badarg (build_each xs)
-    eval (fun p xs e) c = single (T.fun here.name c.next (length xs) (terms (captured_terms c.env (captures_of (fun p xs e) c.scope))))
+    eval (fun p xs e) c =
+        single (T.fun here.name c.next (length xs) (terms (captured_terms c.env (captures_of (fun p xs e) c.scope))))
     eval (let_in p xs a b) c =
         marking (is_marking a xs b c.scope c.lets) (eval a (inner c)) >>= λ vs.
         eval b (record (bind (names_of xs) vs (past (sites_in a) c)) { lets = with_let a xs c.scope c.lets })
@@ -97,7 +99,9 @@ module _ (here : Invocation) where
     eval (apply p e es) c =
         if_named (operator_name e) (expr_count es)
         (λ f. eval_all es (inner c) >>= λ vs. apply_name here c f vs)
-        (one (eval e (inner c)) λ t. eval_all es (past (sites_in e) (inner c)) >>= λ vs. apply_term (own_functions here) t vs)
+        (one (eval e (inner c)) λ t.
+        eval_all es (past (sites_in e) (inner c)) >>= λ vs.
+        apply_term (own_functions here) t vs)
     eval (call p m f es) c =
         one (eval m (inner c)) λ t.
         one (eval f (past (sites_in m) (inner c))) λ u.
@@ -142,9 +146,17 @@ module _ (here : Invocation) where
     pub choose : Clauses → Values → EvaluationContext → Tried Values
     choose no_clause vs c = none_tried
     choose (and_clause (clause p qs g e) cs) vs c =
-        let d = with_names c.scope (bound_all qs) in
+        let uses : ClauseUse = record {
+          guard = g;
+          body = e;
+          scope = with_names c.scope (bound_all qs);
+          site = c.next + sites_in g;
+        } in
         let rest = choose cs vs (past (sites_in g + sites_in e) c) in
-        and_cuts (all_cuts (is_made c.tail here.reached g e d (c.next + sites_in g)) (value_of c) qs (terms vs))
+        and_cuts (all_cuts (is_made c.tail here.reached uses) (value_of c) qs (terms vs))
         (if_there (match_all (value_of c) qs (terms vs))
-        (λ ws. guarded (eval g (inner (bind (bound_all qs) ws c)) blank) (eval e (bind (bound_all qs) ws (past (sites_in g) c))) rest)
+        (λ ws.
+        guarded (eval g (inner (bind (bound_all qs) ws c)) blank)
+        (eval e (bind (bound_all qs) ws (past (sites_in g) c)))
+        rest)
         rest)

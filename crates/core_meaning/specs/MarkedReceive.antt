@@ -23,6 +23,7 @@ abbrev pub is_variable : ℕ → Expr → Scope → Bool
 is_variable n (var p x) g = number_is (binding g x) n
 is_variable n _ g = false
 
+-- whether an expression is one of these variables
 abbrev pub is_one_of : List ℕ → Expr → Scope → Bool
 is_one_of ns (var p x) g = is_among (binding g x) ns
 is_one_of ns _ g = false
@@ -88,6 +89,7 @@ all_demand r no_clause g = true
 all_demand r (and_clause (clause p qs e b) cs) g =
     demands r (numbers_from (length g) (length (bound_all qs))) e (with_names g (bound_all qs)) && all_demand r cs g
 
+-- whether there is a clause
 abbrev pub some_clause : Clauses → Bool
 some_clause no_clause = false
 some_clause (and_clause (clause p qs g e) cs) = true
@@ -101,6 +103,7 @@ first_demanded (r ∷ rs) cs g = elim (all_demand r cs g) [ true ↦ Some r | fa
 abbrev pub marked_with : Clauses → Scope → List ℕ → Option ℕ
 marked_with cs g ls = elim (some_clause cs) [ true ↦ first_demanded ls cs g | false ↦ None ]
 
+-- a number as a list
 abbrev pub at_most_one : Option ℕ → List ℕ
 at_most_one None = []
 at_most_one (Some n) = n ∷ []

@@ -26,15 +26,19 @@ use Rattle.kernel_meaning.specs.Steps.{simply, parts_of, BitsResult, bin_step}
 abbrev pub Falls : Type 0
 Falls = ℕ → Rests → Tried Values
 
+-- no fall has an alternative
 abbrev pub no_falls : Falls
 no_falls k r = none_tried
 
+-- falls with number k go on with f
 abbrev pub with_fall : Falls → ℕ → (Rests → Tried Values) → Falls
 with_fall fs k f = λ j. if eqb j k then f else fs j
 
+-- a row is taken, and does this
 abbrev pub taken : M Values → Tried Values
 taken m = record { cuts = 0; body = Some m }
 
+-- the first of two if the test holds
 abbrev pub select : {A : Type 0} → Bool → A → A → A
 select true a b = a
 select false a b = b
@@ -49,6 +53,7 @@ if_match hs ss env bs f rest =
     and_cuts (seg_cuts (each_made hs ss) (segments_of ss) env bs)
     (elim (match_segs (segments_of ss) env bs) [ None ↦ rest | Some xs ↦ f (with_bindings env xs) ])
 
+-- goes on after a step on bits: where it succeeds, and where it fails
 abbrev pub after_step : BitsResult → (Env → Rests → Tried Values) → (Rests → Tried Values) → Tried Values
 after_step z f g = and_cuts z.cuts (elim z.bound [ None ↦ g z.rests | Some env ↦ f env z.rests ])
 
@@ -57,6 +62,7 @@ abbrev pub or_stuck : Option (M Values) → M Values
 or_stuck None = fail T.error (clause_reason [])
 or_stuck (Some m) = m
 
+-- a match does what the row does that it takes
 abbrev pub matched : Tried Values → M Values
 matched t = cutting t.cuts (or_stuck t.body)
 
@@ -87,7 +93,8 @@ module _ (w : Setting) (here : Here) where
     meaning (catch a) env tail = either (meaning a env false) give exit_of
     meaning (receive n x t v b) env tail =
         beginning (marked_reference w n env)
-        (receiving (λ m. tree_does t (with_value env x m) no_rests tail no_falls) (timeout_of (read env v)) (meaning b env tail))
+        (receiving (λ m. tree_does t (with_value env x m) no_rests tail no_falls) (timeout_of (read env v))
+        (meaning b env tail))
 
     -- what the taken row does, if one is taken
     pub tree_does : Tree → Env → Rests → Bool → Falls → Tried Values
@@ -105,7 +112,8 @@ module _ (w : Setting) (here : Here) where
     pub cases_do : Cases → Term → Env → Rests → Bool → Falls → Tried Values → Tried Values
     cases_do no_case u env r tail fs rest = rest
     cases_do (and_case (case h xs t) cs) u env r tail fs rest =
-        if_there (parts_of h env u) (λ vs. tree_does t (with_values env xs vs) r tail fs) (cases_do cs u env r tail fs rest)
+        if_there (parts_of h env u) (λ vs. tree_does t (with_values env xs vs) r tail fs)
+        (cases_do cs u env r tail fs rest)
 
     -- the first row whose segments match
     pub rows_do : SegRows → Term → Env → Rests → Bool → Falls → Tried Values → Tried Values
@@ -123,7 +131,8 @@ clauses_do w here (x ∷ xs) vs env tail =
       | None ↦ clauses_do w here xs vs env tail
       | Some bs ↦
           let e = with_bindings env bs in
-          if_holds (meaning w here x.guard e false blank) (taken (meaning w here x.body e tail)) (clauses_do w here xs vs env tail)
+          if_holds (meaning w here x.guard e false blank) (taken (meaning w here x.body e tail))
+          (clauses_do w here xs vs env tail)
     ])
 
 -- what a function does with arguments, whatever the other functions are
@@ -133,9 +142,11 @@ fun_does w f here vs = one (meaning w here f.body (with_values no_values f.param
 
 -- Modules.
 
+-- how many parameters each function has
 abbrev pub widths : List Fun → List ℕ
 widths fs = map (λ f. length f.params) fs
 
+-- what the functions of a module do, by their sites
 unfoldable pub module_bodies : Setting → List Fun → Bodies
 unfolding fun_does
 module_bodies w fs n = elim (slice_get fs n) as (λ _. BodyMeaning) [
@@ -143,6 +154,7 @@ module_bodies w fs n = elim (slice_get fs n) as (λ _. BodyMeaning) [
   | Some f ↦ fun_does w f
 ]
 
+-- the site of a function by its name and arity
 abbrev pub site_of : List Fun → FunKey → ℕ
 site_of [] k = 0
 site_of (f ∷ fs) k = if same_key f.key k then f.site else site_of fs k

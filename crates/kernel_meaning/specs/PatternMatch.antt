@@ -11,9 +11,11 @@ use Rattle.core_meaning.specs.SegmentMatch.{if_there, both, also, Segment, match
 use Rattle.kernel_form.specs.Kernel.{Pattern, any, bind, known, cons_like, tuple_like, map_like, bits_like, alias, Patterns, no_pattern, and_pattern, key_pattern, KeyPatterns, no_key, and_key, seg, Segs, no_seg, and_seg}
 use Rattle.kernel_meaning.specs.Environment.{Env, with_value, read}
 
+-- variables with their terms
 abbrev pub Bindings : Type 0
 Bindings = List (ℕ × Term)
 
+-- binds them from left to right
 abbrev pub with_bindings : Env → Bindings → Env
 with_bindings env [] = env
 with_bindings env (b ∷ bs) = with_bindings (with_value env b.0 b.1) bs
@@ -62,14 +64,17 @@ module _ (env : Env) where
 
     pub match_keys : KeyPatterns → Pairs → Option Bindings
     match_keys no_key ps = Some []
-    match_keys (and_key (key_pattern v q) ks) ps = both (if_there (value_at ps (read env v)) (λ t. matches q t) None) (match_keys ks ps)
+    match_keys (and_key (key_pattern v q) ks) ps =
+        both (if_there (value_at ps (read env v)) (λ t. matches q t) None) (match_keys ks ps)
 
 -- A segment of bits that is bound to a variable is made as a sub-binary, unless the variable is handed on.
 
+-- of a pattern for a segment of this shape, where the parts of these variables are handed on
 abbrev pub made : List ℕ → Shape → Pattern → ℕ
 made hs h (bind x) = if h.is_binary && not (among x hs) then 1 else 0
 made hs h _ = 0
 
+-- how many patterns there are
 abbrev pub patterns_in : Patterns → ℕ
 patterns_in no_pattern = 0
 patterns_in (and_pattern q qs) = 1 + patterns_in qs
@@ -96,4 +101,5 @@ module _ (hs : List ℕ) where
 
       pub key_cuts : KeyPatterns → Pairs → ℕ
       key_cuts no_key ps = 0
-      key_cuts (and_key (key_pattern v q) ks) ps = if_there (value_at ps (read env v)) (λ t. cuts q t) 0 + key_cuts ks ps
+      key_cuts (and_key (key_pattern v q) ks) ps =
+          if_there (value_at ps (read env v)) (λ t. cuts q t) 0 + key_cuts ks ps

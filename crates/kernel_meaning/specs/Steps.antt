@@ -24,6 +24,7 @@ use Rattle.kernel_meaning.specs.PatternMatch.{segment_binds, with_segment, made}
 abbrev pub fun_of : List ℕ → Here → ℕ → Values → Term
 fun_of ws here site cs = T.fun here.name site (width ws site - length cs) (terms cs)
 
+-- what a simple step gives
 unfoldable pub simply : Setting → Here → Simple → Env → Bool → M Values
 unfolding answer put_all call_terms
 simply w here (value v) env tail = single (read env v)
@@ -57,13 +58,16 @@ pub record BitsResult : Type 0 where
   pub rests : Rests
   pub cuts : ℕ
 
+-- with these bindings, contexts and sub-binaries
 abbrev pub bits_result : Option Env → Rests → ℕ → BitsResult
 bits_result o r n = record { bound = o; rests = r; cuts = n }
 
+-- a match begins: a bit string gets a context
 abbrev pub opened : ℕ → Term → Env → Rests → BitsResult
 opened c (T.bits bs) env r = bits_result (Some env) (with_rest r c bs) 0
 opened c _ env r = bits_result None r 0
 
+-- a match ends: no bits are left
 abbrev pub finished : List Bool → Env → Rests → BitsResult
 finished [] env r = bits_result (Some env) r 0
 finished (b ∷ bs) env r = bits_result None r 0
@@ -79,6 +83,7 @@ taken_seg hs c (seg q v h) env r =
           (with_rest r c (drop n (r c))) (made hs h q)
     ]
 
+-- what a step on bits does
 unfoldable pub bin_step : Setting → BinStep → Env → Rests → BitsResult
 unfolding same_term
 bin_step w (start x c) env r = opened c (env x) env r

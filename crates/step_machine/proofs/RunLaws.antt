@@ -1,7 +1,7 @@
 -- Laws of all runs.
 use Rattle.std.proofs.Common.{◌≡◌, ◌≤◌, ◌⊎◌, inl, inr, ⊎_elim, ℕ, zero, suc, List, [], ◌∷◌, ◌++◌, refl, ap, arith}
 use Rattle.world_model.specs.World.{Reply, asked}
-use Rattle.step_machine.proofs.OneWay.{Once, once_trans, run_once}
+use Rattle.step_machine.proofs.OneWayLaws.{Once, once_trans, run_once}
 use Rattle.step_machine.specs.RunFacts.{Later, IsEnded, NotWaiting, under}
 use Rattle.step_machine.specs.Steps.{Event, happened, Stepped, goes, ends, bad, notes, asks, Ran, perform, run, AfterSteps, reach_by, reach, from_there, up}
 

@@ -13,6 +13,7 @@ pub record Here : Type 0 where
   pub own : Term
   pub enter : ℕ → Values → M Term
 
+-- a module with this name in a process with this pid, whose functions are entered so
 abbrev pub here_of : Name → Term → (ℕ → Values → M Term) → Here
 here_of name own f = record { name = name; own = own; enter = f }
 
@@ -20,6 +21,7 @@ here_of name own f = record { name = name; own = own; enter = f }
 abbrev pub BodyMeaning : Type 0
 BodyMeaning = Here → Values → M Term
 
+-- a body for each site
 abbrev pub Bodies : Type 0
 Bodies = ℕ → BodyMeaning
 

@@ -13,6 +13,7 @@ pub record Meant : Type 0 where
   pub notes : List Run.Note
   pub end : Outcome Term
 
+-- the sites of entries
 abbrev pub site_list : List Entry → List ℕ
 site_list [] = []
 site_list (e ∷ es) = e.site ∷ site_list es
@@ -44,13 +45,16 @@ pub record Noted (ns : List Run.Note) (log : List Event) : Type 0 where
   pub tails : KeepsTails (Run.entries ns) (entries log)
   pub looked : LeavesOut (Run.looks ns) (serials log)
 
+-- a run notes what a meaning noted, and ends as it did
 pub record RanAsMeant (r : Ran) (e : Meant) : Type 0 where
   pub noted : Noted e.notes r.log
   pub end : EndsAs r.end e.end
 
+-- one list ends the other; of lists with the latest first, the shorter one came first
 abbrev pub IsSuffix : List Happening → List Happening → Type 0
 IsSuffix xs ys = (later : List Happening) × (ys ≡ later ++ xs)
 
+-- how many functions a run entered
 abbrev pub bound_of : Ran → ℕ
 bound_of r = length (sites r.log)
 
@@ -69,6 +73,7 @@ abbrev pub Next : (ℕ → Ran) → ℕ → Outcome Term → Type 0
 Next run k spent = (n : ℕ) × (sites (run (suc k)).log ≡ n ∷ sites (run k).log)
 Next run k _ = Unit {0}
 
+-- a run comes to each meaning
 pub record OneWay (run : ℕ → Ran) (eval : ℕ → Meant) : Type 0 where
   pub reaches : (n : ℕ) → (k : ℕ) × RanAsMeant (run k) (eval n) × Next run k (eval n).end
   -- the meaning keeps its bound, and meets it where it is spent

@@ -8,9 +8,11 @@ use Rattle.step_machine.specs.Steps.{Event, Stepped, over, unfinished, Ran, ran,
 abbrev pub Later : List Event → List Event → Type 0
 Later old new = (front : List Event) × (new ≡ front ++ old)
 
+-- a run is over, or broke a rule
 abbrev pub IsEnded : Ran → Type 0
 IsEnded r = r.end ≢ unfinished
 
+-- a run does not end with a request that finds no reply
 abbrev pub NotWaiting : Ran → Type 0
 NotWaiting r = (q : Request) → r.end ≢ over (waits q)
 

@@ -4,6 +4,8 @@ use Rattle.erl_term.specs.Term.{Term}
 use Rattle.world_model.specs.Run.{Entry, Outcome, waits}
 use Rattle.world_model.specs.World.{Request, Reply, Happening, asked}
 
+-- what a step notes: what happened, a function that was entered, the serial of a message that was looked at, a
+-- sub-binary that was made
 pub data Event : Type 0 where
   happened : Happening → Event
   entered : Entry → Event
@@ -19,6 +21,7 @@ pub data Stepped (S : Type 0) : Type 0 where
   notes : Event → Stepped S → Stepped S
   asks : Request → (Reply → Stepped S) → Stepped S
 
+-- how a run ends: with an outcome, with steps left to make, or with a broken rule
 pub data End : Type 0 where
   over : Outcome Term → End
   unfinished : End
@@ -29,9 +32,11 @@ pub record Ran : Type 0 where
   pub log : List Event
   pub end : End
 
+-- a run with these notes and this end
 abbrev pub ran : List Event → End → Ran
 ran log e = record { log = log; end = e }
 
+-- what a step leads to is done: k goes on from the next state
 abbrev pub perform : {S : Type 0} → Stepped S → (S → List Reply → List Event → Ran) → List Reply → List Event → Ran
 perform (goes m) k rs log = k m rs log
 perform (ends o) k rs log = ran log (over o)
@@ -50,11 +55,13 @@ unfoldable pub run : {S : Type 0} → (S → Stepped S) → ℕ → S → List R
 run step zero m rs log = ran log unfinished
 run step (suc k) m rs log = perform (step m) (run step k) rs log
 
+-- what happened
 abbrev pub happenings : List Event → List Happening
 happenings [] = []
 happenings (happened h ∷ ns) = h ∷ happenings ns
 happenings (_ ∷ ns) = happenings ns
 
+-- the functions that were entered
 abbrev pub entries : List Event → List Entry
 entries [] = []
 entries (entered e ∷ ns) = e ∷ entries ns
@@ -72,6 +79,7 @@ serials [] = []
 serials (examined n ∷ ns) = n ∷ serials ns
 serials (_ ∷ ns) = serials ns
 
+-- how many sub-binaries were made
 abbrev pub subs : List Event → ℕ
 subs [] = 0
 subs (sub_binary ∷ ns) = suc (subs ns)
@@ -82,7 +90,9 @@ pub data AfterSteps (S : Type 0) : Type 0 where
   at : S → List Reply → List Event → AfterSteps S
   stopped : Ran → AfterSteps S
 
-abbrev pub reach_by : {S : Type 0} → Stepped S → (S → List Reply → List Event → AfterSteps S) → List Reply → List Event → AfterSteps S
+-- the same as `perform`, where k says where the run stands later
+abbrev pub reach_by : {S : Type 0} → Stepped S → (S → List Reply → List Event → AfterSteps S) → List Reply
+    → List Event → AfterSteps S
 reach_by (goes m) k rs log = k m rs log
 reach_by (ends o) k rs log = stopped (ran log (over o))
 reach_by bad k rs log = stopped (ran log is_bad)
@@ -90,10 +100,12 @@ reach_by (notes n s) k rs log = reach_by s k rs (n ∷ log)
 reach_by (asks q f) k [] log = stopped (ran log (over (waits q)))
 reach_by (asks q f) k (r ∷ rs) log = reach_by (f r) k rs (happened (asked q r) ∷ log)
 
+-- after k steps
 unfoldable pub reach : {S : Type 0} → (S → Stepped S) → ℕ → S → List Reply → List Event → AfterSteps S
 reach step zero m rs log = at m rs log
 reach step (suc k) m rs log = reach_by (step m) (reach step k) rs log
 
+-- a run that goes on from where another one stands
 abbrev pub from_there : {S : Type 0} → AfterSteps S → (S → List Reply → List Event → Ran) → Ran
 from_there (at m rs log) f = f m rs log
 from_there (stopped r) f = r

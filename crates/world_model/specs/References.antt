@@ -1,5 +1,5 @@
--- Which references are bound to which serials along a run, and which messages its receives may pass over (this project's
--- own, after Erlang/OTP 25's receive markers).
+-- Which references are bound to which serials along a run, and which messages its receives may pass over (this
+-- project's own, after Erlang/OTP 25's receive markers).
 use Rattle.std.specs.Prelude.{ℕ, suc, List, [], ◌∷◌, Bool, true, false, leb, Option, Some, None, if◌then◌else◌}
 use Rattle.erl_term.specs.Term.{Term}
 use Rattle.erl_term.specs.TermOrder.{same_term}
