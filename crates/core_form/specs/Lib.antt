@@ -5,3 +5,4 @@ pub mod Sites
 pub mod Walks
 pub mod View
 pub mod SiteLaws
+pub mod Nodes
