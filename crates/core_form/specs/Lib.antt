@@ -6,3 +6,4 @@ pub mod Walks
 pub mod View
 pub mod SiteLaws
 pub mod Nodes
+pub mod SourceTree
