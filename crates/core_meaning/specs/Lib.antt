@@ -5,7 +5,7 @@ pub mod PassedOnTail
 pub mod SubBinaries
 pub mod ReceiveCost
 pub mod Calls
-pub mod Context
+pub mod EvaluationContext
 pub mod ClauseChoice
 pub mod MarkingCalls
 pub mod Evaluation

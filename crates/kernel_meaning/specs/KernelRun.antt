@@ -7,12 +7,12 @@ use Rattle.erl_term.specs.Term.{Term}
 use Rattle.erl_term.specs.TermOrder.{same_term}
 use Rattle.erl_term.specs.Terms.{Values, terms, class_word, word}
 use Rattle.world_model.specs.World.{Script}
-use Rattle.world_model.specs.Run.{State, Outcome, M, ◌>>=◌, give, fail}
+use Rattle.world_model.specs.Run.{State, sub_binaries, Outcome, M, ◌>>=◌, give, fail}
 use Rattle.world_model.specs.Meaning.{one, either}
 use Rattle.world_model.specs.Requests.{exit_of}
 use Rattle.world_model.specs.Receive.{timeout_of, Tried, cutting, receiving}
 use Rattle.step_machine.specs.Bodies.{Here, Body, Bodies, entered_deep}
-use Rattle.core_meaning.specs.ReceiveCost.{subs, serial_of, unbound}
+use Rattle.core_meaning.specs.ReceiveCost.{examined}
 use Rattle.core_meaning.specs.ClauseChoice.{blank, is_true, none_tried, and_cuts, clause_reason}
 use Rattle.core_meaning.specs.MarkingCalls.{marking, beginning}
 use Rattle.core_meaning.specs.CoreRun.{Result, ended, start}
@@ -40,7 +40,7 @@ select false a b = b
 
 -- a guard with this result, before two trees: it holds where it gives the atom true
 abbrev pub if_holds : State × Outcome Values → Tried Values → Tried Values → Tried Values
-if_holds r a b = and_cuts (subs r.0.notes) (select (is_true r.1) a b)
+if_holds r a b = and_cuts (sub_binaries r.0.notes) (select (is_true r.1) a b)
 
 abbrev pub if_parts : Option Values → (Values → Tried Values) → Tried Values → Tried Values
 if_parts None f rest = rest
@@ -151,6 +151,6 @@ site_of (f ∷ fs) k = if same_key f.key k then f.site else site_of fs k
 
 -- what a call of an export does, with at most n entries
 unfoldable pub kernel_run : Setting → Kernel → FunKey → Values → Script → ℕ → Result
-unfolding entered_deep module_bodies serial_of unbound
+unfolding entered_deep module_bodies examined
 kernel_run w k f vs x n =
     ended x.choices (entered_deep k.name x.own (module_bodies w k.funs) (suc n) (site_of k.funs f) vs (start x n))

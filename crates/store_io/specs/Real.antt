@@ -1,7 +1,7 @@
 -- What the objects of the system count.
 use Rattle.std.specs.Prelude.{ℕ}
 use Rattle.store_io.specs.declared.real.RealStore.{RealStore}
-use Rattle.store_io.specs.declared.real.StdSink.{StdSink}
+use Rattle.store_io.specs.declared.std_sink.StdSink.{StdSink}
 
 -- how many faults of reading, and of writing, were counted
 abbrev pub read_count : {R A B : Type 0} → RealStore R A B → ℕ

@@ -3,8 +3,7 @@
 //! Files are known by their names, and what a store or a sink tells of its contents is what contracts speak of. The
 //! objects in memory tell everything; those of the system tell nothing and only count their faults: they are trusted
 //! to do what the operating system says, so no clause refuses a `RealStore` that makes nothing or a `load` of its that
-//! gives no byte. A body that always answers want of memory meets the contracts of `reserve` and `add`: the tests call
-//! them with ample memory, and read what was kept.
+//! gives no byte.
 #![tactic(auto)]
 
 mod faulty;
@@ -13,14 +12,16 @@ mod memory_sink;
 mod real;
 mod sink;
 mod slot;
+mod std_sink;
 mod store;
 mod whole;
 
 pub use faulty::{CallNumbers, FaultySink, FaultyStore};
 pub use memory::MemoryStore;
 pub use memory_sink::MemorySink;
-pub use real::{RealStore, StdSink};
+pub use real::RealStore;
 pub use sink::Sink;
+pub use std_sink::StdSink;
 pub use store::{Failed, Store};
 pub use whole::{LoadFault, MAX_FILE, load_all, put_all, store_all};
 

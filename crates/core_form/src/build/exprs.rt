@@ -2,7 +2,7 @@
 ghost use Rattle.std.specs.Prelude.{◌≡◌, IfOk, IsOkAnd, None, Some};
 ghost use Rattle.core_form.specs.declared.tree.ExprForm.TheVariants as form;
 
-use core_form::{Binders, Clauses, Defs, Expr, ExprForm, Exprs, MapParts, Segments};
+use crate::{Binders, Clauses, Defs, Expr, ExprForm, Exprs, MapParts, Segments};
 use erl_base::{Boxed, FunKey, Name, NoMemory, Place, both, three};
 use erl_term::Term;
 use std::alloc::Global;
@@ -53,7 +53,8 @@ pub fn list(
     items: Result<Exprs, NoMemory>,
     tail: Result<Boxed<Expr>, NoMemory>,
 ) -> Result<Boxed<Expr>, NoMemory>
-    ensures { IfOk result (λ made. IsOkAnd items (λ xs. IsOkAnd tail (λ t. made ≡ record { place = place; form = form.List xs t }))) }
+    ensures { IfOk result (λ made. IsOkAnd items (λ xs. IsOkAnd tail (λ t.
+        made ≡ record { place = place; form = form.List xs t }))) }
 {
     let (items, tail) = both(items, tail)?;
     boxed(alloc, place, ExprForm::List(items, tail))
@@ -85,7 +86,8 @@ pub fn updated_map(
     pairs: Result<MapParts, NoMemory>,
     base: Result<Boxed<Expr>, NoMemory>,
 ) -> Result<Boxed<Expr>, NoMemory>
-    ensures { IfOk result (λ made. IsOkAnd pairs (λ ps. IsOkAnd base (λ b. made ≡ record { place = place; form = form.Map ps (Some b) }))) }
+    ensures { IfOk result (λ made. IsOkAnd pairs (λ ps. IsOkAnd base (λ b.
+        made ≡ record { place = place; form = form.Map ps (Some b) }))) }
 {
     let (pairs, base) = both(pairs, base)?;
     boxed(alloc, place, ExprForm::Map(pairs, Some(base)))
@@ -107,7 +109,8 @@ pub fn fun(
     params: Result<Binders, NoMemory>,
     body: Result<Boxed<Expr>, NoMemory>,
 ) -> Result<Boxed<Expr>, NoMemory>
-    ensures { IfOk result (λ made. IsOkAnd params (λ ps. IsOkAnd body (λ b. made ≡ record { place = place; form = form.Fun ps b }))) }
+    ensures { IfOk result (λ made. IsOkAnd params (λ ps. IsOkAnd body (λ b.
+        made ≡ record { place = place; form = form.Fun ps b }))) }
 {
     let (params, body) = both(params, body)?;
     boxed(alloc, place, ExprForm::Fun(params, body))
@@ -120,7 +123,8 @@ pub fn let_in(
     value: Result<Boxed<Expr>, NoMemory>,
     body: Result<Boxed<Expr>, NoMemory>,
 ) -> Result<Boxed<Expr>, NoMemory>
-    ensures { IfOk result (λ made. IsOkAnd vars (λ vs. IsOkAnd value (λ v. IsOkAnd body (λ b. made ≡ record { place = place; form = form.Let vs v b })))) }
+    ensures { IfOk result (λ made. IsOkAnd vars (λ vs. IsOkAnd value (λ v. IsOkAnd body (λ b.
+        made ≡ record { place = place; form = form.Let vs v b })))) }
 {
     let (vars, value, body) = three(vars, value, body)?;
     boxed(alloc, place, ExprForm::Let(vars, value, body))
@@ -132,7 +136,8 @@ pub fn letrec(
     defs: Result<Defs, NoMemory>,
     body: Result<Boxed<Expr>, NoMemory>,
 ) -> Result<Boxed<Expr>, NoMemory>
-    ensures { IfOk result (λ made. IsOkAnd defs (λ ds. IsOkAnd body (λ b. made ≡ record { place = place; form = form.Letrec ds b }))) }
+    ensures { IfOk result (λ made. IsOkAnd defs (λ ds. IsOkAnd body (λ b.
+        made ≡ record { place = place; form = form.Letrec ds b }))) }
 {
     let (defs, body) = both(defs, body)?;
     boxed(alloc, place, ExprForm::Letrec(defs, body))
@@ -144,7 +149,8 @@ pub fn case(
     subject: Result<Boxed<Expr>, NoMemory>,
     clauses: Result<Clauses, NoMemory>,
 ) -> Result<Boxed<Expr>, NoMemory>
-    ensures { IfOk result (λ made. IsOkAnd subject (λ s. IsOkAnd clauses (λ cs. made ≡ record { place = place; form = form.Case s cs }))) }
+    ensures { IfOk result (λ made. IsOkAnd subject (λ s. IsOkAnd clauses (λ cs.
+        made ≡ record { place = place; form = form.Case s cs }))) }
 {
     let (subject, clauses) = both(subject, clauses)?;
     boxed(alloc, place, ExprForm::Case(subject, clauses))
@@ -156,7 +162,8 @@ pub fn apply(
     function: Result<Boxed<Expr>, NoMemory>,
     arguments: Result<Exprs, NoMemory>,
 ) -> Result<Boxed<Expr>, NoMemory>
-    ensures { IfOk result (λ made. IsOkAnd function (λ f. IsOkAnd arguments (λ xs. made ≡ record { place = place; form = form.Apply f xs }))) }
+    ensures { IfOk result (λ made. IsOkAnd function (λ f. IsOkAnd arguments (λ xs.
+        made ≡ record { place = place; form = form.Apply f xs }))) }
 {
     let (function, arguments) = both(function, arguments)?;
     boxed(alloc, place, ExprForm::Apply(function, arguments))
@@ -169,7 +176,8 @@ pub fn call(
     function: Result<Boxed<Expr>, NoMemory>,
     arguments: Result<Exprs, NoMemory>,
 ) -> Result<Boxed<Expr>, NoMemory>
-    ensures { IfOk result (λ made. IsOkAnd remote (λ r. IsOkAnd function (λ f. IsOkAnd arguments (λ xs. made ≡ record { place = place; form = form.Call r f xs })))) }
+    ensures { IfOk result (λ made. IsOkAnd remote (λ r. IsOkAnd function (λ f. IsOkAnd arguments (λ xs.
+        made ≡ record { place = place; form = form.Call r f xs })))) }
 {
     let (remote, function, arguments) = three(remote, function, arguments)?;
     boxed(alloc, place, ExprForm::Call(remote, function, arguments))
@@ -181,7 +189,8 @@ pub fn primop(
     name: Result<Name, NoMemory>,
     arguments: Result<Exprs, NoMemory>,
 ) -> Result<Boxed<Expr>, NoMemory>
-    ensures { IfOk result (λ made. IsOkAnd name (λ n. IsOkAnd arguments (λ xs. made ≡ record { place = place; form = form.Primop n xs }))) }
+    ensures { IfOk result (λ made. IsOkAnd name (λ n. IsOkAnd arguments (λ xs.
+        made ≡ record { place = place; form = form.Primop n xs }))) }
 {
     let (name, arguments) = both(name, arguments)?;
     boxed(alloc, place, ExprForm::Primop(name, arguments))
@@ -193,7 +202,8 @@ pub fn do_then(
     first: Result<Boxed<Expr>, NoMemory>,
     second: Result<Boxed<Expr>, NoMemory>,
 ) -> Result<Boxed<Expr>, NoMemory>
-    ensures { IfOk result (λ made. IsOkAnd first (λ f. IsOkAnd second (λ s. made ≡ record { place = place; form = form.Do f s }))) }
+    ensures { IfOk result (λ made. IsOkAnd first (λ f. IsOkAnd second (λ s.
+        made ≡ record { place = place; form = form.Do f s }))) }
 {
     let (first, second) = both(first, second)?;
     boxed(alloc, place, ExprForm::Do(first, second))
@@ -218,7 +228,8 @@ pub fn try_in(
     caught: Result<Binders, NoMemory>,
     handler: Result<Boxed<Expr>, NoMemory>,
 ) -> Result<Boxed<Expr>, NoMemory>
-    ensures { IfOk result (λ made. IsOkAnd tried (λ t. IsOkAnd vars (λ vs. IsOkAnd body (λ b. IsOkAnd caught (λ cs. IsOkAnd handler (λ h. made ≡ record { place = place; form = form.Try t vs b cs h })))))) }
+    ensures { IfOk result (λ made. IsOkAnd tried (λ t. IsOkAnd vars (λ vs. IsOkAnd body (λ b. IsOkAnd caught (λ cs.
+        IsOkAnd handler (λ h. made ≡ record { place = place; form = form.Try t vs b cs h })))))) }
 {
     let (vars, caught) = both(vars, caught)?;
     let (tried, body, handler) = three(tried, body, handler)?;
@@ -236,7 +247,8 @@ pub fn receive(
     timeout: Result<Boxed<Expr>, NoMemory>,
     after: Result<Boxed<Expr>, NoMemory>,
 ) -> Result<Boxed<Expr>, NoMemory>
-    ensures { IfOk result (λ made. IsOkAnd clauses (λ cs. IsOkAnd timeout (λ t. IsOkAnd after (λ a. made ≡ record { place = place; form = form.Receive cs t a })))) }
+    ensures { IfOk result (λ made. IsOkAnd clauses (λ cs. IsOkAnd timeout (λ t. IsOkAnd after (λ a.
+        made ≡ record { place = place; form = form.Receive cs t a })))) }
 {
     let (clauses, timeout, after) = three(clauses, timeout, after)?;
     boxed(alloc, place, ExprForm::Receive(clauses, timeout, after))

@@ -1,8 +1,8 @@
 -- What stands before the end of a chain, and the whole that it makes with an end.
 use Rattle.std.specs.Prelude.{List, [], ◌∷◌, ◌++◌}
-use Rattle.kernel_make.specs.declared.chains.LetHead.{LetHead}
-use Rattle.kernel_make.specs.declared.chains.Node.{Node}
-use Rattle.kernel_make.specs.declared.chains.Node.TheVariants as N
+use Rattle.kernel_form.specs.declared.build.chains.LetHead.{LetHead}
+use Rattle.kernel_form.specs.declared.build.chains.Node.{Node}
+use Rattle.kernel_form.specs.declared.build.chains.Node.TheVariants as N
 use Rattle.kernel_form.specs.declared.tree.KExpr.{KExpr}
 use Rattle.kernel_form.specs.declared.tree.KExpr.TheVariants as E
 use Rattle.kernel_form.specs.declared.tree.Tree.{Tree}

@@ -1,11 +1,11 @@
 -- A chain goes on behind its last part.
 use Rattle.std.proofs.Common.{◌≡◌, List, [], ◌∷◌, ◌++◌, refl, ap}
-use Rattle.kernel_make.specs.declared.chains.LetHead.{LetHead}
-use Rattle.kernel_make.specs.declared.chains.Node.{Node}
+use Rattle.kernel_form.specs.declared.build.chains.LetHead.{LetHead}
+use Rattle.kernel_form.specs.declared.build.chains.Node.{Node}
 use Rattle.kernel_form.specs.declared.tree.KExpr.{KExpr}
 use Rattle.kernel_form.specs.declared.tree.KExpr.TheVariants as E
 use Rattle.kernel_form.specs.declared.tree.Tree.{Tree}
-use Rattle.kernel_make.specs.Chains.{in_lets, in_node, in_nodes}
+use Rattle.kernel_form.specs.Chains.{in_lets, in_node, in_nodes}
 
 pub in_lets_append : (xs : List LetHead) (x : LetHead) (e : KExpr) → in_lets (xs ++ x ∷ []) e ≡ in_lets xs (E.Let x.vars x.value e)
 in_lets_append [] x e = refl

@@ -51,7 +51,8 @@ pub fn try_of(
     caught: Result<Vars, NoMemory>,
     handler: Result<Boxed<KExpr>, NoMemory>,
 ) -> Result<Boxed<KExpr>, NoMemory>
-    ensures { IfOk result (λ made. IsOkAnd tried (λ t. IsOkAnd vars (λ xs. IsOkAnd body (λ b. IsOkAnd caught (λ ys. IsOkAnd handler (λ h. made ≡ E.Try t xs b ys h)))))) }
+    ensures { IfOk result (λ made. IsOkAnd tried (λ t. IsOkAnd vars (λ xs. IsOkAnd body (λ b. IsOkAnd caught (λ ys.
+        IsOkAnd handler (λ h. made ≡ E.Try t xs b ys h)))))) }
 {
     let (vars, caught) = both(vars, caught)?;
     let (tried, body, handler) = three(tried, body, handler)?;
@@ -75,7 +76,8 @@ pub fn receive(
     timeout: Result<KValue, NoMemory>,
     after: Result<Boxed<KExpr>, NoMemory>,
 ) -> Result<Boxed<KExpr>, NoMemory>
-    ensures { IfOk result (λ made. IsOkAnd clauses (λ t. IsOkAnd timeout (λ v. IsOkAnd after (λ b. made ≡ E.Receive number message t v b)))) }
+    ensures { IfOk result (λ made. IsOkAnd clauses (λ t. IsOkAnd timeout (λ v. IsOkAnd after (λ b.
+        made ≡ E.Receive number message t v b)))) }
 {
     let (clauses, timeout, after) = three(clauses, timeout, after)?;
     let clauses = clauses.into_inner();
@@ -151,7 +153,8 @@ pub fn guarded(
     then: Result<Boxed<Tree>, NoMemory>,
     last: Result<Boxed<Tree>, NoMemory>,
 ) -> Result<Boxed<Tree>, NoMemory>
-    ensures { IfOk result (λ made. IsOkAnd guard (λ g. IsOkAnd then (λ t. IsOkAnd last (λ l. made ≡ T.Guarded g t l)))) }
+    ensures { IfOk result (λ made. IsOkAnd guard (λ g. IsOkAnd then (λ t. IsOkAnd last (λ l.
+        made ≡ T.Guarded g t l)))) }
 {
     let (guard, then, last) = three(guard, then, last)?;
     Boxed::new(alloc, Tree::Guarded(guard, then, last))

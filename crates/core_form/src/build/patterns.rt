@@ -2,7 +2,7 @@
 ghost use Rattle.std.specs.Prelude.{◌≡◌, IfOk, IsOkAnd};
 ghost use Rattle.core_form.specs.declared.tree.PatternForm.TheVariants as form;
 
-use core_form::{KeyPatterns, Pattern, PatternForm, Patterns, SegPatterns};
+use crate::{KeyPatterns, Pattern, PatternForm, Patterns, SegPatterns};
 use erl_base::{Boxed, Name, NoMemory, Place, both};
 use erl_term::Term;
 use std::alloc::Global;
@@ -23,7 +23,8 @@ pub fn alias(
     name: Result<Name, NoMemory>,
     inner: Result<Boxed<Pattern>, NoMemory>,
 ) -> Result<Boxed<Pattern>, NoMemory>
-    ensures { IfOk result (λ made. IsOkAnd name (λ n. IsOkAnd inner (λ i. made ≡ record { place = place; form = form.Alias n i }))) }
+    ensures { IfOk result (λ made. IsOkAnd name (λ n. IsOkAnd inner (λ i.
+        made ≡ record { place = place; form = form.Alias n i }))) }
 {
     let (name, inner) = both(name, inner)?;
     boxed(alloc, place, PatternForm::Alias(name, inner))
@@ -45,7 +46,8 @@ pub fn list(
     items: Result<Patterns, NoMemory>,
     tail: Result<Boxed<Pattern>, NoMemory>,
 ) -> Result<Boxed<Pattern>, NoMemory>
-    ensures { IfOk result (λ made. IsOkAnd items (λ xs. IsOkAnd tail (λ t. made ≡ record { place = place; form = form.List xs t }))) }
+    ensures { IfOk result (λ made. IsOkAnd items (λ xs. IsOkAnd tail (λ t.
+        made ≡ record { place = place; form = form.List xs t }))) }
 {
     let (items, tail) = both(items, tail)?;
     boxed(alloc, place, PatternForm::List(items, tail))

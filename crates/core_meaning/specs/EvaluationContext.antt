@@ -7,7 +7,7 @@ use Rattle.core_form.specs.Scope.{Use, Scope, binding, with_names, numbers_from,
 
 -- where an expression stands: what names mean, what the bindings hold, the number of the first site in
 -- it, whether it is in tail position, and the bindings by lets around it that make a reference
-pub record Context : Type 0 where
+pub record EvaluationContext : Type 0 where
   pub scope : Scope
   pub env : List (ℕ × Term)
   pub next : ℕ
@@ -15,11 +15,11 @@ pub record Context : Type 0 where
   pub lets : List ℕ
 
 -- for a part that is not in tail position
-abbrev pub inner : Context → Context
+abbrev pub inner : EvaluationContext → EvaluationContext
 inner c = record c { tail = false }
 
 -- for what stands behind n sites
-abbrev pub past : ℕ → Context → Context
+abbrev pub past : ℕ → EvaluationContext → EvaluationContext
 past n c = record c { next = c.next + n }
 
 -- the value of the binding with a number
@@ -43,12 +43,12 @@ holding (n ∷ ns) [] env = env
 holding (n ∷ ns) (v ∷ vs) env = (n, v) ∷ holding ns vs env
 
 -- under further names, with these values
-abbrev pub bind : List Name → Values → Context → Context
+abbrev pub bind : List Name → Values → EvaluationContext → EvaluationContext
 bind xs vs c = record c {
   scope = with_names c.scope xs;
   env = holding (numbers_from (length c.scope) (length xs)) vs c.env;
 }
 
 -- the value of a variable, which a name means here
-abbrev pub value_of : Context → Name → Option Term
+abbrev pub value_of : EvaluationContext → Name → Option Term
 value_of c x = elim (binding c.scope x) [ None ↦ None | Some n ↦ held c.env n ]

@@ -1,4 +1,5 @@
-// What stands before the end of a chain of lets or of tree nodes, and the whole that it makes with its end.
+// Chains that are copied as a loop goes along them. A part comes as the call that made it answered; where one part is not
+// there, nor is the whole.
 ghost use Rattle.std.specs.Prelude.{◌≡◌, ◌++◌, [], ◌∷◌, IfOk, IsOkAnd};
 ghost use Rattle.kernel_form.specs.declared.tree.KExpr.{KExpr};
 ghost use Rattle.kernel_form.specs.declared.tree.KExpr.TheVariants as E;
@@ -6,34 +7,13 @@ ghost use Rattle.kernel_form.specs.declared.tree.Tree.{Tree};
 ghost use Rattle.kernel_form.specs.declared.tree.Tree.TheVariants as T;
 ghost use Rattle.kernel_form.specs.declared.tree.Case.{roll-Case};
 ghost use Rattle.kernel_form.specs.declared.tree.SegRow.{roll-SegRow};
-ghost use Rattle.kernel_make.specs.Chains.{in_lets, in_node, in_nodes};
+ghost use Rattle.kernel_form.specs.Chains.{in_lets, in_node, in_nodes};
 
-use crate::nodes::{and_case, and_row, either, let_in, segments, step, switch};
-use erl_base::{Boxed, List, NoMemory, VarId, both, three};
+use erl_base::{Boxed, NoMemory, VarId, both, three};
+use kernel_form::build::chains::{LetHead, LetHeads, Node, Nodes, in_lets, in_nodes};
 use kernel_form::{Cases, KExpr, SegRows, Tree};
 use kernel_parts::{BinStep, KSegs, Shape, Vars};
 use std::alloc::Global;
-
-/// A let without its body.
-#[derive(Drop)]
-pub struct LetHead {
-    pub vars: Vars,
-    pub value: Boxed<KExpr>,
-}
-
-/// A tree without the one with which its chain goes on: the second of `Either`, the first of `Step`, and that of the last
-/// case or row, whose other parts stand behind the cases or rows before it.
-#[derive(Drop)]
-pub enum Node {
-    Either(u32, Boxed<Tree>),
-    Switch(VarId, Cases, Shape, Vars, Boxed<Tree>),
-    Segments(VarId, SegRows, KSegs, Boxed<Tree>),
-    Step(BinStep, Boxed<Tree>),
-}
-
-pub type LetHeads = List<LetHead>;
-
-pub type Nodes = List<Node>;
 
 /// The lets around the expression, the last one innermost.
 pub fn put_in_lets(
@@ -45,22 +25,6 @@ pub fn put_in_lets(
 {
     let (lets, end) = both(lets, end)?;
     in_lets(alloc, lets, end)
-}
-
-// Takes the lets off the list, the innermost first.
-#[tactic(auto, using(crate::proofs::ChainEnds::in_lets_append))]
-fn in_lets(
-    alloc: Global,
-    mut lets: LetHeads,
-    mut expr: Boxed<KExpr>,
-) -> Result<Boxed<KExpr>, NoMemory>
-    ensures { IfOk result (λ whole. whole ≡ in_lets lets expr) }
-{
-    while let Some(head) = lets.pop() {
-        let LetHead { vars, value } = head;
-        expr = let_in(alloc, Ok(vars), Ok(value), Ok(expr))?;
-    }
-    Ok(expr)
 }
 
 /// The nodes around the tree, the last one innermost.
@@ -75,35 +39,8 @@ pub fn put_in_nodes(
     in_nodes(alloc, nodes, end)
 }
 
-#[tactic(auto, using(crate::proofs::ChainEnds::in_nodes_append))]
-fn in_nodes(alloc: Global, mut nodes: Nodes, mut tree: Boxed<Tree>) -> Result<Boxed<Tree>, NoMemory>
-    ensures { IfOk result (λ whole. whole ≡ in_nodes nodes tree) }
-{
-    while let Some(node) = nodes.pop() {
-        tree = in_node(alloc, node, tree)?;
-    }
-    Ok(tree)
-}
-
-fn in_node(alloc: Global, node: Node, tree: Boxed<Tree>) -> Result<Boxed<Tree>, NoMemory>
-    ensures { IfOk result (λ whole. whole ≡ in_node node tree) }
-{
-    match node {
-        Node::Either(number, first) => either(alloc, number, Ok(first), Ok(tree)),
-        Node::Switch(var, cases, shape, parts, last) => {
-            let cases = and_case(Ok(cases), Ok(shape), Ok(parts), Ok(tree));
-            switch(alloc, var, cases, Ok(last))
-        }
-        Node::Segments(var, rows, segs, last) => {
-            let rows = and_row(Ok(rows), Ok(segs), Ok(tree));
-            segments(alloc, var, rows, Ok(last))
-        }
-        Node::Step(bits, last) => step(alloc, Ok(bits), Ok(tree), Ok(last)),
-    }
-}
-
 /// The lets with one more, the innermost.
-#[tactic(auto, using(crate::proofs::ChainEnds::in_lets_append))]
+#[tactic(auto, using(kernel_form::proofs::ChainLaws::in_lets_append))]
 pub fn and_let(
     lets: Result<LetHeads, NoMemory>,
     vars: Result<Vars, NoMemory>,
@@ -117,7 +54,7 @@ pub fn and_let(
     Ok(lets)
 }
 
-#[tactic(auto, using(crate::proofs::ChainEnds::in_nodes_append))]
+#[tactic(auto, using(kernel_form::proofs::ChainLaws::in_nodes_append))]
 fn and_node(nodes: Result<Nodes, NoMemory>, node: Node) -> Result<Nodes, NoMemory>
     ensures { IfOk result (λ more. IsOkAnd nodes (λ ns. (t : Tree) → in_nodes more t ≡ in_nodes ns (in_node node t))) }
 {
@@ -158,8 +95,10 @@ pub fn and_switch(
     parts: Result<Vars, NoMemory>,
     last: Result<Boxed<Tree>, NoMemory>,
 ) -> Result<Nodes, NoMemory>
-    ensures { IfOk result (λ more. IsOkAnd nodes (λ ns. IsOkAnd before (λ cs. IsOkAnd shape (λ h. IsOkAnd parts (λ xs. IsOkAnd last (λ l.
-        (t : Tree) → in_nodes more t ≡ in_nodes ns (T.Switch var (cs ++ roll-Case (record { shape = h; parts = xs; then = t }) ∷ []) l))))))) }
+    ensures { IfOk result (λ more. IsOkAnd nodes (λ ns. IsOkAnd before (λ cs. IsOkAnd shape (λ h. IsOkAnd parts (λ xs.
+        IsOkAnd last (λ l. (t : Tree) →
+        in_nodes more t ≡ in_nodes ns
+        (T.Switch var (cs ++ roll-Case (record { shape = h; parts = xs; then = t }) ∷ []) l))))))) }
 {
     let (before, last) = both(before, last)?;
     let (shape, parts) = both(shape, parts)?;
@@ -174,7 +113,8 @@ pub fn and_segments(
     last: Result<Boxed<Tree>, NoMemory>,
 ) -> Result<Nodes, NoMemory>
     ensures { IfOk result (λ more. IsOkAnd nodes (λ ns. IsOkAnd before (λ rs. IsOkAnd segs (λ ss. IsOkAnd last (λ l.
-        (t : Tree) → in_nodes more t ≡ in_nodes ns (T.Segments var (rs ++ roll-SegRow (record { segs = ss; then = t }) ∷ []) l)))))) }
+        (t : Tree) → in_nodes more t ≡ in_nodes ns
+        (T.Segments var (rs ++ roll-SegRow (record { segs = ss; then = t }) ∷ []) l)))))) }
 {
     let (before, segs, last) = three(before, segs, last)?;
     and_node(nodes, Node::Segments(var, before, segs, last))

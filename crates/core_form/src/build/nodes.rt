@@ -2,7 +2,7 @@
 ghost use Rattle.std.specs.Prelude.{◌≡◌, IfOk, IsOkAnd};
 ghost use Rattle.core_form.specs.declared.tree.Clause.{roll-Clause};
 
-use core_form::{
+use crate::{
     Clause, Def, Defs, Expr, KeyPattern, MapPart, Module, Pattern, Patterns, SegPattern, Segment,
 };
 use erl_base::{Boxed, Duplicate, FunKey, Name, NoMemory, Place, both, three};
@@ -15,7 +15,8 @@ pub fn map_part(
     value: Result<Boxed<Expr>, NoMemory>,
     exact: bool,
 ) -> Result<Boxed<MapPart>, NoMemory>
-    ensures { IfOk result (λ made. IsOkAnd key (λ k. IsOkAnd value (λ v. made ≡ record { key = k; value = v; exact = exact }))) }
+    ensures { IfOk result (λ made. IsOkAnd key (λ k. IsOkAnd value (λ v.
+        made ≡ record { key = k; value = v; exact = exact }))) }
 {
     let (key, value) = both(key, value)?;
     let key = key.into_inner();
@@ -32,7 +33,8 @@ pub fn segment(
     kind: Result<Name, NoMemory>,
     flags: Result<Term, NoMemory>,
 ) -> Result<Boxed<Segment>, NoMemory>
-    ensures { IfOk result (λ made. IsOkAnd value (λ v. IsOkAnd size (λ s. IsOkAnd unit (λ u. IsOkAnd kind (λ k. IsOkAnd flags (λ f. made ≡ record { place = place; value = v; size = s; unit = u; kind = k; flags = f })))))) }
+    ensures { IfOk result (λ made. IsOkAnd value (λ v. IsOkAnd size (λ s. IsOkAnd unit (λ u. IsOkAnd kind (λ k.
+        IsOkAnd flags (λ f. made ≡ record { place = place; value = v; size = s; unit = u; kind = k; flags = f })))))) }
 {
     let (value, size) = both(value, size)?;
     let (unit, kind, flags) = three(unit, kind, flags)?;
@@ -57,7 +59,8 @@ pub fn def(
     place: Place,
     fun: Result<Boxed<Expr>, NoMemory>,
 ) -> Result<Boxed<Def>, NoMemory>
-    ensures { IfOk result (λ made. IsOkAnd key (λ k. IsOkAnd fun (λ f. made ≡ record { key = k; place = place; fun = f }))) }
+    ensures { IfOk result (λ made. IsOkAnd key (λ k. IsOkAnd fun (λ f.
+        made ≡ record { key = k; place = place; fun = f }))) }
 {
     let (key, fun) = both(key, fun)?;
     let fun = fun.into_inner();
@@ -71,7 +74,8 @@ pub fn clause(
     guard: Result<Boxed<Expr>, NoMemory>,
     body: Result<Boxed<Expr>, NoMemory>,
 ) -> Result<Boxed<Clause>, NoMemory>
-    ensures { IfOk result (λ made. IsOkAnd patterns (λ ps. IsOkAnd guard (λ g. IsOkAnd body (λ b. made ≡ roll-Clause (record { place = place; patterns = ps; guard = g; body = b }))))) }
+    ensures { IfOk result (λ made. IsOkAnd patterns (λ ps. IsOkAnd guard (λ g. IsOkAnd body (λ b.
+        made ≡ roll-Clause (record { place = place; patterns = ps; guard = g; body = b }))))) }
 {
     let (patterns, guard, body) = three(patterns, guard, body)?;
     let guard = guard.into_inner();
@@ -109,7 +113,8 @@ pub fn seg_pattern(
     kind: Result<Name, NoMemory>,
     flags: Result<Term, NoMemory>,
 ) -> Result<Boxed<SegPattern>, NoMemory>
-    ensures { IfOk result (λ made. IsOkAnd value (λ v. IsOkAnd size (λ s. IsOkAnd unit (λ u. IsOkAnd kind (λ k. IsOkAnd flags (λ f. made ≡ record { place = place; value = v; size = s; unit = u; kind = k; flags = f })))))) }
+    ensures { IfOk result (λ made. IsOkAnd value (λ v. IsOkAnd size (λ s. IsOkAnd unit (λ u. IsOkAnd kind (λ k.
+        IsOkAnd flags (λ f. made ≡ record { place = place; value = v; size = s; unit = u; kind = k; flags = f })))))) }
 {
     let (value, size) = both(value, size)?;
     let (unit, kind, flags) = three(unit, kind, flags)?;
@@ -134,7 +139,8 @@ pub fn with_defs(
     tree: &Module,
     defs: Result<Defs, NoMemory>,
 ) -> Result<Module, NoMemory>
-    ensures { IfOk result (λ made. IsOkAnd defs (λ ds. made ≡ record { name = tree.now.name; exports = tree.now.exports; attributes = tree.now.attributes; defs = ds; floats = tree.now.floats; wide = tree.now.wide; long = tree.now.long })) }
+    ensures { IfOk result (λ made. IsOkAnd defs (λ ds.
+        made ≡ record tree.now { defs = ds })) }
 {
     let defs = defs?;
     let name = tree.name.copy(alloc)?;

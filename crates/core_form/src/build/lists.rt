@@ -1,7 +1,7 @@
 // Lists with one more item.
 ghost use Rattle.std.specs.Prelude.{◌≡◌, ◌++◌, [], ◌∷◌, IfOk, IsOkAnd};
 
-use core_form::{
+use crate::{
     Clause, Clauses, Def, Defs, Expr, Exprs, KeyPattern, KeyPatterns, MapPart, MapParts, Pattern,
     Patterns, SegPattern, SegPatterns, Segment, Segments,
 };
