@@ -1,7 +1,7 @@
 use Rattle.std.proofs.Common.{◌∙◌, sym, arith}
 use Rattle.std.proofs.lemmas.Grind.{common_steps}
-use Rattle.term_read.proofs.MapRuns.{takes_first, takes_both, takes_second}
-use Rattle.term_read.proofs.maps.least.Goals as goal
+use Rattle.erl_term.proofs.MapRuns.{takes_first, takes_both, takes_second}
+use Rattle.erl_term.proofs.maps.least.Goals as goal
 
 pub returns-in-Less : goal.returns-in-Less
 returns-in-Less c =

@@ -6,16 +6,15 @@ use Rattle.std.specs.Ordering.{ordering_reverse}
 use Rattle.erl_term.specs.declared.term.Pair.{Pair}
 use Rattle.erl_term.specs.Term.{Term, Pairs, no_pair, pair}
 use Rattle.erl_term.specs.TermOrder.{compare}
-use Rattle.erl_term.specs.Terms.{pairs, put}
+use Rattle.erl_term.specs.Terms.{pairs, listed_pairs, put, put_all}
 use Rattle.erl_term.specs.View.{pair_view}
 use Rattle.erl_term.specs.WellFormed.{is_below, comes_first, maps_rise, pairs_rise, pair_normal}
 use Rattle.erl_term.specs.Comparing.{pair_row, PairsNormal}
 use Rattle.erl_term.proofs.OrderLaws.{total, same, apart}
 use Rattle.erl_term.proofs.MapLaws.{put_rises}
 use Rattle.erl_term.proofs.Forms.{left_true, right_true, both_true}
-use Rattle.term_read.specs.TermGrammar.{put_all}
-use Rattle.term_read.specs.Merging.{IsRun, front_order, merge, TakesLeast}
-use Rattle.term_read.specs.WellRead.{parts_rise, PairsWellFormed}
+use Rattle.erl_term.specs.Merging.{IsRun, front_order, merge, TakesLeast}
+use Rattle.erl_term.specs.WellRows.{parts_rise, PairsWellFormed}
 
 -- How a pair is put.
 
@@ -104,10 +103,6 @@ below_rest k v f (q ∷ qs) h =
 put_above : (k v : Term) (s : List (Term × Term)) (f : Pairs) → Above k s → put k v (put_all s f) ≡ put_all s (put k v f)
 put_above k v [] f h = refl
 put_above k v (q ∷ qs) f h = put_above k v qs (put q.0 q.1 f) h.1 ∙ ap (put_all qs) (put-below k v q.0 q.1 h.0 f)
-
-abbrev pub listed_pairs : Pairs → List (Term × Term)
-listed_pairs no_pair = []
-listed_pairs (pair k v ps) = (k, v) ∷ listed_pairs ps
 
 pairs-listed : (ps : Pairs) → pairs (listed_pairs ps) ≡ ps
 pairs-listed no_pair = refl

@@ -1,8 +1,8 @@
 use Rattle.std.proofs.Common.{◌≡◌, ◌+◌, length}
 use Rattle.erl_term.specs.Comparing.{PairsNormal}
-use Rattle.term_read.specs.Merging.{IsRun, merge}
-use Rattle.term_read.proofs.MapRuns.{in_front_of}
-use Rattle.term_read.proofs.maps.merged.Given as goal
+use Rattle.erl_term.specs.Merging.{IsRun, merge}
+use Rattle.erl_term.proofs.MapRuns.{in_front_of}
+use Rattle.erl_term.proofs.maps.merged.Given as goal
 
 abbrev pub invariant-loop-pair : goal.invariant-loop-pair
 invariant-loop-pair l = record {

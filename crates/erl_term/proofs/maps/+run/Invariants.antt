@@ -1,4 +1,4 @@
-use Rattle.term_read.proofs.maps.+run.Given as goal
+use Rattle.erl_term.proofs.maps.+run.Given as goal
 
 abbrev pub decreases-run : goal.decreases-run
 decreases-run l = l.count

@@ -8,7 +8,7 @@ use Rattle.erl_term.specs.TermOrder.{compare}
 use Rattle.erl_term.specs.View.{pair_view}
 use Rattle.erl_term.specs.WellFormed.{pairs_rise, pair_normal}
 use Rattle.erl_term.specs.Comparing.{pair_row, PairsNormal}
-use Rattle.term_read.specs.TermGrammar.{put_all}
+use Rattle.erl_term.specs.Terms.{put_all}
 
 -- a run: well-formed pairs whose keys rise
 pub record IsRun (ps : List Pair) : Type 0 where

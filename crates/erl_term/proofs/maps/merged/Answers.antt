@@ -1,8 +1,8 @@
 use Rattle.std.proofs.Common.{subst, Option, None, Some}
 use Rattle.erl_term.specs.declared.term.Pair.{Pair}
-use Rattle.term_read.specs.Merging.{TakesLeast}
-use Rattle.term_read.proofs.MapRuns.{merged_more, merged_all, pair_pushed, run_is}
-use Rattle.term_read.proofs.maps.merged.Goals as goal
+use Rattle.erl_term.specs.Merging.{TakesLeast}
+use Rattle.erl_term.proofs.MapRuns.{merged_more, merged_all, pair_pushed, run_is}
+use Rattle.erl_term.proofs.maps.merged.Goals as goal
 
 pub loop-pair-preserved : goal.loop-pair-preserved
 loop-pair-preserved c =

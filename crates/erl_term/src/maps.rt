@@ -1,20 +1,21 @@
-// The map of pairs that stand in a text in any order: runs whose keys rise are merged, each as long as the other.
+// The map of pairs in any order: runs whose keys rise are merged, each as long as the other.
 ghost use Rattle.std.specs.Prelude.{◌≡◌, ◌≤◌, [], ◌∷◌, take, drop, length, map, IfOk, OnOk};
 ghost use Rattle.erl_term.specs.Term as Plain;
 ghost use Rattle.erl_term.specs.View.{pair_view};
 ghost use Rattle.erl_term.specs.Comparing.{pair_row};
-ghost use Rattle.term_read.specs.TermGrammar.{put_all};
-ghost use Rattle.term_read.specs.Merging.{IsRun, front_order, merge, TakesLeast};
-ghost use Rattle.term_read.specs.WellRead.{PairsWellFormed};
+ghost use Rattle.erl_term.specs.Terms.{put_all};
+ghost use Rattle.erl_term.specs.Merging.{IsRun, front_order, merge, TakesLeast};
+ghost use Rattle.erl_term.specs.WellRows.{PairsWellFormed};
 
+use crate::order::compare;
+use crate::term::{Pair, Pairs};
 use erl_base::{List, NoMemory};
-use erl_term::{Pair, Pairs, compare};
 use std::alloc::Global;
 use std::cmp::Ordering;
 use std::collections::VecDeque;
 
 /// The pairs in the order of their keys, the last of those with equal keys.
-pub(crate) fn map_of(alloc: Global, found: Pairs) -> Result<Pairs, NoMemory>
+pub fn map_of(alloc: Global, found: Pairs) -> Result<Pairs, NoMemory>
     requires { PairsWellFormed found }
     ensures value { IfOk result (λ all. pair_row all ≡ put_all (map pair_view found) Plain.no_pair) }
     ensures well_formed { IfOk result (λ all. IsRun all) }
@@ -68,7 +69,7 @@ fn single(
     }
 }
 
-#[tactic(auto, unfolding(erl_term::specs::Terms::put))]
+#[tactic(auto, unfolding(crate::specs::Terms::put))]
 fn run_of(alloc: Global, pair: Pair) -> Result<VecDeque<Pair>, NoMemory>
     requires { PairsWellFormed (pair ∷ []) }
     ensures value { IfOk result (λ run. pair_row run.items ≡ put_all (map pair_view (pair ∷ [])) Plain.no_pair) }

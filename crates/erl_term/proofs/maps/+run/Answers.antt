@@ -1,6 +1,6 @@
 use Rattle.std.proofs.Common.{◌∙◌, ap, ◌-◌, ◌/◌, arith, length, length-drop}
-use Rattle.term_read.proofs.MapRuns.{halves_merged, left_well_formed}
-use Rattle.term_read.proofs.maps.+run.Goals as goal
+use Rattle.erl_term.proofs.MapRuns.{halves_merged, left_well_formed}
+use Rattle.erl_term.proofs.maps.+run.Goals as goal
 
 pub run-requires-2 : goal.run-requires-2
 run-requires-2 t c =

@@ -1,5 +1,5 @@
 use Rattle.std.proofs.Common.{◌≡◌, ◌++◌, length}
-use Rattle.term_read.proofs.maps.map_of.Given as goal
+use Rattle.erl_term.proofs.maps.map_of.Given as goal
 
 abbrev pub invariant-loop-pair : goal.invariant-loop-pair
 invariant-loop-pair l = l.all ++ l.merged.items ≡ l.initial.merged.items
