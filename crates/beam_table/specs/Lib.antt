@@ -1,5 +1,4 @@
 pub mod Code
-pub mod TextRange
 pub mod MachineState
 pub mod GeneralRules
 pub mod Data
