@@ -14,6 +14,9 @@ pub mod Operands
 pub mod OperandBounds
 pub mod InstructionText
 pub mod ValidModule
+pub mod ModuleForms
+pub mod FormBounds
+pub mod WellFormedModule
 pub mod View
 pub mod Families
 pub mod Inbox
