@@ -19,11 +19,12 @@ use Rattle.core_form.specs.Captures.{sites_in, sites_in_all, sites_in_parts, sit
 use Rattle.core_form.specs.Sites.{Site}
 use Rattle.core_form.specs.Walks.{expr_count}
 use Rattle.core_meaning.specs.SegmentShape.{shape_of}
+use Rattle.core_meaning.specs.SegmentMatch.{if_there}
 use Rattle.core_meaning.specs.PatternMatch.{match_all}
 use Rattle.core_meaning.specs.MarkedReceive.{marked_with}
 use Rattle.core_meaning.specs.Calls.{Activation, callees}
 use Rattle.core_meaning.specs.EvaluationContext.{EvaluationContext, inner, past, captured_terms, value_of}
-use Rattle.core_meaning.specs.ClauseChoice.{case_end, case_tried, taken_if, guarded, if_bound, and_cuts, none_tried}
+use Rattle.core_meaning.specs.ClauseChoice.{case_end, case_tried, taken_if, guarded, and_cuts, none_tried}
 use Rattle.core_meaning.specs.MarkingCalls.{awaited}
 use Rattle.core_meaning.specs.Evaluation.{build_each, name_of, if_named, apply_name, eval, eval_all, eval_parts, eval_segments, choose}
 use Rattle.core_meaning.specs.CoreRun.{run_site}
@@ -109,7 +110,7 @@ more_cuts_ok L n t t' h = record { cuts = ap (λ k. n + k) h.cuts; body = h.body
 guarded_ok : (L : Logic) (r r' : State × Outcome Values) (m m' : M Values) (t t' : Tried Values) → r ≡ r' → L.Rel m m' → TriedRel L t t' → TriedRel L (guarded r m t) (guarded r' m' t')
 guarded_ok L r r' m m' t t' e k h = subst (λ q. TriedRel L (guarded r m t) (guarded q m' t')) e (more_cuts_ok L _ _ _ (taken_ok L _ m m' t t' k h))
 
-bound_ok : (L : Logic) (o : Option Values) (f f' : Values → Tried Values) (t t' : Tried Values) → ((ws : Values) → TriedRel L (f ws) (f' ws)) → TriedRel L t t' → TriedRel L (if_bound o f t) (if_bound o f' t')
+bound_ok : (L : Logic) (o : Option Values) (f f' : Values → Tried Values) (t t' : Tried Values) → ((ws : Values) → TriedRel L (f ws) (f' ws)) → TriedRel L t t' → TriedRel L (if_there o f t) (if_there o f' t')
 bound_ok L None f f' t t' h k = k
 bound_ok L (Some ws) f f' t t' h k = h ws
 

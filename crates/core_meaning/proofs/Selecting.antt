@@ -9,10 +9,11 @@ use Rattle.world_model.specs.Laws.{TakesFirst, LooksForMore}
 use Rattle.core_form.specs.Core.{Expr, Patterns, Clauses, no_clause, and_clause, clause}
 use Rattle.core_form.specs.Captures.{sites_in}
 use Rattle.core_form.specs.Scope.{bound_all}
+use Rattle.core_meaning.specs.SegmentMatch.{if_there}
 use Rattle.core_meaning.specs.PatternMatch.{match_all}
 use Rattle.core_meaning.specs.Calls.{Activation}
 use Rattle.core_meaning.specs.EvaluationContext.{EvaluationContext, inner, past, bind, value_of}
-use Rattle.core_meaning.specs.ClauseChoice.{blank, is_true, taken_if, guarded, if_bound}
+use Rattle.core_meaning.specs.ClauseChoice.{blank, is_true, taken_if, guarded}
 use Rattle.core_meaning.specs.Evaluation.{eval, choose}
 use Rattle.core_meaning.specs.SelectiveReceive.{Accepts, Chosen, this, later, NoneAccepts, trying, TakesTheFirst, LooksForMoreMessages}
 use Rattle.core_meaning.proofs.Matching.{all_give, from_all}
@@ -34,7 +35,7 @@ module _ (here : Activation) (p : Place) (qs : Patterns) (g e : Expr) (cs : Clau
   rest = choose here cs vs (past (sites_in g + sites_in e) c)
 
   abbrev tried : Option Values → Tried Values
-  tried o = if_bound o (λ ws. guarded (guard_of ws) (body_with ws) rest) rest
+  tried o = if_there o (λ ws. guarded (guard_of ws) (body_with ws) rest) rest
 
   -- by the result of the guard
   by_guard : (ws : Values) (b : Bool) → is_true (guard_of ws).1 ≡ b → match_all (value_of c) qs (terms vs) ≡ Some ws → (body : M Values)

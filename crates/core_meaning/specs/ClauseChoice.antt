@@ -40,11 +40,6 @@ taken_if false body rest = rest
 abbrev pub guarded : {A : Type 0} → State × Outcome Values → M A → Tried A → Tried A
 guarded r body rest = and_cuts (sub_binaries r.0.notes) (taken_if (is_true r.1) body rest)
 
--- patterns that bind these values, before what is done with them and further clauses
-abbrev pub if_bound : {A : Type 0} → Option Values → (Values → Tried A) → Tried A → Tried A
-if_bound None f rest = rest
-if_bound (Some ws) f rest = f ws
-
 -- A case without a clause.
 
 abbrev pub clause_reason : Values → Term

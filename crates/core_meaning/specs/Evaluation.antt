@@ -18,12 +18,13 @@ use Rattle.core_form.specs.Scope.{Use, function_of, with_names, names_of, bound_
 use Rattle.core_form.specs.Captures.{sites_in, sites_in_all, sites_in_parts, sites_in_defs, sites_in_clauses, in_group, captures_of}
 use Rattle.core_form.specs.Walks.{expr_count, with_let}
 use Rattle.core_meaning.specs.SegmentShape.{shape_of}
+use Rattle.core_meaning.specs.SegmentMatch.{if_there}
 use Rattle.core_meaning.specs.PatternMatch.{match_all}
 use Rattle.core_meaning.specs.MarkedReceive.{is_marking, marked_with}
 use Rattle.core_meaning.specs.SubBinaries.{is_made, all_cuts}
 use Rattle.core_meaning.specs.Calls.{Activation, callees, primitive}
 use Rattle.core_meaning.specs.EvaluationContext.{EvaluationContext, inner, past, captured_terms, bind, value_of}
-use Rattle.core_meaning.specs.ClauseChoice.{blank, none_tried, and_cuts, guarded, if_bound, case_tried}
+use Rattle.core_meaning.specs.ClauseChoice.{blank, none_tried, and_cuts, guarded, case_tried}
 use Rattle.core_meaning.specs.MarkingCalls.{marking, awaited, beginning}
 
 -- a segment's shape, value and size
@@ -144,6 +145,6 @@ module _ (here : Activation) where
         let d = with_names c.scope (bound_all qs) in
         let rest = choose cs vs (past (sites_in g + sites_in e) c) in
         and_cuts (all_cuts (is_made c.tail here.reached g e d (c.next + sites_in g)) (value_of c) qs (terms vs))
-        (if_bound (match_all (value_of c) qs (terms vs))
+        (if_there (match_all (value_of c) qs (terms vs))
         (λ ws. guarded (eval g (inner (bind (bound_all qs) ws c)) blank) (eval e (bind (bound_all qs) ws (past (sites_in g) c))) rest)
         rest)

@@ -16,14 +16,15 @@ use Rattle.world_model.specs.Receive.{timeout_of, Tried}
 use Rattle.world_model.specs.RemoteCalls.{call_erlang, call_terms, apply_term, raise_again}
 use Rattle.world_model.specs.Entries.{entering}
 use Rattle.step_machine.specs.Bodies.{Body, here_of, callees}
+use Rattle.core_meaning.specs.SegmentMatch.{if_there, match_segs}
 use Rattle.core_meaning.specs.ClauseChoice.{blank, is_true, none_tried, and_cuts}
 use Rattle.core_meaning.specs.MarkingCalls.{marking, last_mark}
 use Rattle.core_meaning.specs.Evaluation.{or_badarg, build_each}
 use Rattle.kernel_form.specs.Kernel.{Simple, value, cons, tuple, map_put, bits, make_fun, bif, local, apply, remote, send, trace, raise, failing, Expr, values, simple, let_in, match_in, try, catch, receive, Tree, body, fall, either_in, switch, segments, step, guarded, case, Cases, no_case, and_case, seg_row, SegRows, no_row, and_row, Fun}
 use Rattle.kernel_meaning.specs.Environment.{Env, no_values, with_value, with_values, Rests, no_rests, read, read_all, read_pairs, read_parts, Setting}
-use Rattle.kernel_meaning.specs.PatternMatch.{with_bindings, match_segs}
+use Rattle.kernel_meaning.specs.PatternMatch.{with_bindings, segments_of}
 use Rattle.kernel_meaning.specs.Steps.{simply, parts_of, bin_step}
-use Rattle.kernel_meaning.specs.KernelRun.{Falls, no_falls, with_fall, taken, select, if_holds, if_parts, or_stuck, matched, is_marked, meaning, tree, cases, rows, fun_does}
+use Rattle.kernel_meaning.specs.KernelRun.{Falls, no_falls, with_fall, taken, select, if_holds, or_stuck, matched, is_marked, meaning, tree, cases, rows, fun_does}
 use Rattle.pass_contract.specs.SameRun.{SameState, SameResult, Agree, EntersAgree}
 use Rattle.kernel_meaning.specs.Agreement.{OptionAgrees, TriedAgrees}
 use Rattle.kernel_meaning.proofs.Agreeing.{give_agrees, fail_agrees, noting_agrees, cutting_agrees, bind_agrees, either_agrees, ask_agrees, left_agrees, receiving_agrees, same_state}
@@ -111,7 +112,7 @@ holds_agrees r q a b c d e h i =
     e.state.sub_binaries
     (subst (λ o. TriedAgrees (select (is_true r.1) a b) (select (is_true o) c d)) (sym e.end) (select_agrees (is_true r.1) a b c d h i))
 
-parts_agree : (o : Option Values) (f g : Values → Tried Values) (a b : Tried Values) → ((vs : Values) → TriedAgrees (f vs) (g vs)) → TriedAgrees a b → TriedAgrees (if_parts o f a) (if_parts o g b)
+parts_agree : (o : Option Values) (f g : Values → Tried Values) (a b : Tried Values) → ((vs : Values) → TriedAgrees (f vs) (g vs)) → TriedAgrees a b → TriedAgrees (if_there o f a) (if_there o g b)
 parts_agree None f g a b h i = i
 parts_agree (Some vs) f g a b h i = h vs
 
@@ -256,7 +257,7 @@ module _ (name : Name) (own : Term) (f g : ℕ → Values → M Term) (enters : 
       rows_agree no_row u env r tail fs gs h a b i = i
       rows_agree (and_row (seg_row ss t) rs) (T.bits bs) env r tail fs gs h a b i =
           and_cuts_agrees _ _ _ _ (omega arith)
-          (bound_agrees (match_segs ss env bs) _ _ _ _ (λ xs. tree_agrees t (with_bindings env xs) r tail fs gs h) (rows_agree rs (T.bits bs) env r tail fs gs h a b i))
+          (bound_agrees (match_segs (segments_of ss) env bs) _ _ _ _ (λ xs. tree_agrees t (with_bindings env xs) r tail fs gs h) (rows_agree rs (T.bits bs) env r tail fs gs h a b i))
       rows_agree (and_row (seg_row ss t) rs) _ env r tail fs gs h a b i = i
 
 -- two bodies that do the same where the functions that they enter agree
