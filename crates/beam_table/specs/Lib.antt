@@ -9,10 +9,10 @@ pub mod Receives
 pub mod Binaries
 pub mod InstructionStep
 pub mod MachineRun
-pub mod OperandWords
 pub mod Operands
 pub mod OperandBounds
 pub mod InstructionText
+pub mod Opcodes
 pub mod ValidModule
 pub mod ModuleForms
 pub mod FormBounds
