@@ -6,11 +6,12 @@ use Rattle.erl_base.specs.Names.{Name}
 use Rattle.erl_base.specs.declared.ids.FunKey.{FunKey}
 use Rattle.erl_term.specs.Term as T
 use Rattle.erl_term.specs.Terms.{list_of}
+use Rattle.core_chars.specs.Characters.{is_lower}
 use Rattle.beam_table.specs.Code as C
 use Rattle.beam_table.specs.Code.{Reg, x_reg, y_reg, Source, reg, Insn, move, return, AsmFun, AsmModule}
 use Rattle.beam_table.specs.InstructionText.{register_term, source_term}
 use Rattle.beam_table.specs.ValidModule.{every}
-use Rattle.term_text.specs.Atoms.{is_small, is_name_character, is_plain_name, atom_text}
+use Rattle.term_text.specs.Atoms.{is_name_character, is_plain_name, atom_text}
 use Rattle.term_text.specs.Decimal.{decimal_on}
 use Rattle.term_text.specs.TermText.{term_on, rest_on}
 use Rattle.term_text.proofs.Digits.{decimal_unique, integer_unique}
@@ -66,9 +67,9 @@ both_true a b e f = ap (λ x. x && b) e ∙ f
 plain_chars : (a : Name) → IsTrue (is_plain_name a) → IsTrue (list_all is_name_character a)
 plain_chars [] h = refl
 plain_chars (c ∷ cs) h =
-    let chars = first_true (is_small c && list_all is_name_character cs) _ h in
-    let lower = first_true (is_small c) _ chars in
-    both_true (is_name_character c) _ (either_true _ _ (either_true _ _ (either_true _ _ (either_true (is_small c) _ lower)))) (others_true (is_small c) _ chars)
+    let chars = first_true (is_lower c && list_all is_name_character cs) _ h in
+    let lower = first_true (is_lower c) _ chars in
+    both_true (is_name_character c) _ (either_true _ _ (either_true _ _ (either_true _ _ (either_true (is_lower c) _ lower)))) (others_true (is_lower c) _ chars)
 
 name_unique : (a b : Name) (c d : ℕ) (r s : List ℕ) → IsTrue (is_plain_name a) → IsTrue (is_plain_name b) → is_name_character c ≡ false → is_name_character d ≡ false → atom_text a ++ (c ∷ r) ≡ atom_text b ++ (d ∷ s) → (a ≡ b) × (c ∷ r ≡ d ∷ s)
 name_unique a b c d r s p q h i e =

@@ -1,14 +1,14 @@
 -- Matching bit strings by contexts, and building them.
-use Rattle.std.specs.Prelude.{ℕ, zero, suc, ◌+◌, ◌%◌, List, [], ◌∷◌, ◌++◌, length, slice_get, take, drop, min, Bool, true, false, eqb, Option, Some, None, codes}
+use Rattle.std.specs.Prelude.{ℕ, ◌+◌, ◌%◌, List, [], ◌∷◌, ◌++◌, length, slice_get, take, min, Bool, true, false, eqb, Option, Some, None, codes}
 use Rattle.erl_base.specs.Names.{same_name}
 use Rattle.erl_term.specs.Term as T
 use Rattle.erl_term.specs.Segments.{Shape, joined, built, taken_size, segment_value}
-use Rattle.erl_term.specs.Term.{Term}
+use Rattle.step_machine.specs.Frames.{MatchContext, rest_of, moved}
 use Rattle.step_machine.specs.Steps.{goes, bad, notes, sub_binary}
 use Rattle.beam_table.specs.Code as C
 use Rattle.beam_table.specs.Calls.{badarg}
 use Rattle.beam_table.specs.Code.{Reg, Source, Flags, Segment, AsmModule}
-use Rattle.beam_table.specs.MachineState.{Cell, Context, Machine, term, context, position}
+use Rattle.beam_table.specs.MachineState.{Cell, Machine, term, context, position}
 use Rattle.beam_table.specs.GeneralRules.{Effect, if_some, read_reg, read_cell, read, write, write_term, collects, jumps, or_jumps, or_raises}
 
 -- the operand `{atom,all}`, and no other one that holds this atom
@@ -22,15 +22,6 @@ shape binary size unit fs = record { unit = unit; is_binary = binary; signed = f
 abbrev pub number_shape : ℕ → Flags → Shape
 number_shape unit fs = record { unit = unit; is_binary = false; signed = fs.signed; little = fs.little; whole = false }
 
-abbrev pub rest_of : Context → List Bool
-rest_of w = drop w.at w.bits
-
--- context n at another position
-abbrev pub moved : ℕ → ℕ → List Context → List Context
-moved n p [] = []
-moved zero p (w ∷ ws) = record w { at = p } ∷ ws
-moved (suc n) p (w ∷ ws) = w ∷ moved n p ws
-
 abbrev pub at_position : ℕ → ℕ → Machine → Machine
 at_position n p m = record m { contexts = moved n p m.contexts }
 
@@ -43,7 +34,7 @@ if_position (position p) k = k p
 if_position _ k = bad
 
 -- the context that a register holds, with its number
-abbrev pub context_in : Machine → Reg → (ℕ → Context → Effect) → Effect
+abbrev pub context_in : Machine → Reg → (ℕ → MatchContext → Effect) → Effect
 context_in m c k = read_reg m c λ v. if_context v λ n. if_some (slice_get m.contexts n) λ w. k n w
 
 -- a sub-binary
@@ -85,7 +76,7 @@ module _ (a : AsmModule) where
   abbrev pub do_start_match : Option ℕ → ℕ → Source → Reg → Machine → Effect
   do_start_match l live s d m = collects live m λ u. read_cell u s λ c. starts l c d u
 
-  abbrev pub takes : Option ℕ → ℕ → ℕ → Context → Machine → (List Bool → Machine → Effect) → Effect
+  abbrev pub takes : Option ℕ → ℕ → ℕ → MatchContext → Machine → (List Bool → Machine → Effect) → Effect
   takes None l n w m k = jumps a l m
   takes (Some j) l n w m k = k (take j (rest_of w)) (at_position n (w.at + j) m)
 

@@ -1,10 +1,10 @@
 -- Calls of functions, of other modules and of funs; returns.
-use Rattle.std.specs.Prelude.{ℕ, suc, ◌+◌, ◌-◌, List, [], ◌∷◌, ◌++◌, length, slice_get, get_or, take, Bool, true, false, not, ◌&&◌, eqb, leb, Option, Some, None, if◌then◌else◌, codes}
+use Rattle.std.specs.Prelude.{ℕ, suc, ◌+◌, ◌-◌, List, [], ◌∷◌, ◌++◌, length, slice_get, get_or, take, Bool, true, false, ◌&&◌, eqb, leb, Option, Some, None, if◌then◌else◌, codes}
 use Rattle.erl_base.specs.Names.{Name, same_name}
 use Rattle.erl_term.specs.Term as T
 use Rattle.erl_term.specs.Term.{Term, none, more}
 use Rattle.erl_term.specs.Terms.{terms, listed, word, tagged, list_of}
-use Rattle.bif_table.specs.Builtins.{Bif, is_guard, lookup}
+use Rattle.bif_table.specs.Builtins.{lookup, raises_always}
 use Rattle.bif_table.specs.BuiltinAnswer.{Answer, value, raised, answer}
 use Rattle.world_model.specs.World as W
 use Rattle.world_model.specs.Requests.{is_send}
@@ -21,12 +21,8 @@ badarg = word (codes "badarg")
 abbrev pub below : Machine → Machine
 below m = record m { callers = record { frame = m.frame; back = m.code } ∷ m.callers; frame = None }
 
-abbrev pub some_raises : Option Bif → Bool
-some_raises None = false
-some_raises (Some b) = not (is_guard b)
-
 abbrev pub never_returns : Extern → Bool
-never_returns e = same_name e.mod_name (codes "erlang") && some_raises (lookup e.name e.arity)
+never_returns e = same_name e.mod_name (codes "erlang") && raises_always e.name e.arity
 
 abbrev pub frame_unless : Bool → Machine → Effect → Effect
 frame_unless true m a = a

@@ -4,6 +4,7 @@ use Rattle.erl_base.specs.Names.{Name}
 use Rattle.erl_base.specs.declared.ids.FunKey.{FunKey}
 use Rattle.erl_term.specs.Term.{Term}
 use Rattle.bif_table.specs.Builtins.{Bif}
+use Rattle.bif_table.specs.TermTests.{TypeTest, Comparison}
 
 pub data Reg : Type 0 where
   x_reg y_reg : ℕ → Reg
@@ -15,12 +16,6 @@ pub data Source : Type 0 where
   integer : ℤ → Source
   nil : Source
   literal : Term → Source
-
-pub data TypeTest : Type 0 where
-  is_atom is_integer is_number is_list is_nonempty_list is_nil is_tuple is_binary is_bitstr is_boolean is_function is_map is_pid is_port is_reference : TypeTest
-
-pub data Comparison : Type 0 where
-  is_eq_exact is_ne_exact is_eq is_ne is_lt is_ge is_function2 : Comparison
 
 -- a function of any module
 pub record Extern : Type 0 where

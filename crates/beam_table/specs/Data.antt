@@ -1,19 +1,20 @@
 -- Moves, frames and heap room, building, and taking apart.
 use Rattle.std.specs.Prelude.{ℕ, suc, ◌+◌, List, [], ◌∷◌, length, map, slice_get, take, drop, replicate, Bool, not, ◌&&◌, eqb, Option, Some, None, if◌then◌else◌, codes}
 use Rattle.erl_term.specs.Term as T
-use Rattle.erl_term.specs.Term.{Term, Pairs, more, Class}
+use Rattle.erl_term.specs.Term.{Term, Pairs}
 use Rattle.erl_term.specs.TermOrder.{same_term}
 use Rattle.erl_term.specs.Terms.{terms, listed, value_at, is_there, tagged, put}
 use Rattle.bif_table.specs.BuiltinAnswer.{Answer, value, raised}
+use Rattle.step_machine.specs.Frames.{is_tag, no_tags}
 use Rattle.step_machine.specs.Steps.{goes, bad}
 use Rattle.beam_table.specs.Code.{Reg, y_reg, Source, AsmModule}
 use Rattle.beam_table.specs.MachineState.{Cell, Machine, unset, killed}
-use Rattle.beam_table.specs.GeneralRules.{Effect, needs, is_set, is_tag, no_tags, in_frame, no_frame, if_some, read_reg, read_cell, read, read_all, outside_window, write, write_term, collects, builds, jumps, answers}
+use Rattle.beam_table.specs.GeneralRules.{Effect, needs, is_set, tag_in, in_frame, no_frame, if_some, read_reg, read_cell, read, read_all, outside_window, write, write_term, collects, builds, jumps, answers}
 
 -- Moves.
 
 abbrev pub is_movable : Cell → Bool
-is_movable c = is_set c && not (is_tag c)
+is_movable c = is_set c && not (is_tag tag_in c)
 
 -- {move,S,D}: D := S, of any kind but a tag; S is set
 abbrev pub do_move : Source → Reg → Machine → Effect
@@ -39,12 +40,12 @@ do_allocate n w live m =
 
 -- drops a frame of n slots without a tag
 abbrev pub drops : ℕ → Machine → (Machine → Effect) → Effect
-drops n m k = outside_window m (in_frame m.frame λ ys. needs (eqb (length ys) n && no_tags ys) (k (record m { frame = None })))
+drops n m k = outside_window m (in_frame m.frame λ ys. needs (eqb (length ys) n && no_tags tag_in ys) (k (record m { frame = None })))
 
 -- {trim,N,R}: of N + R slots the lowest N, which hold no tag, go; the others move down
 abbrev pub do_trim : ℕ → ℕ → Machine → Effect
 do_trim n r m = outside_window m (in_frame m.frame λ ys.
-    needs (eqb (length ys) (n + r) && no_tags (take n ys)) (goes (record m { frame = Some (drop n ys) })))
+    needs (eqb (length ys) (n + r) && no_tags tag_in (take n ys)) (goes (record m { frame = Some (drop n ys) })))
 
 -- {test_heap,W,Live}: collects; then room for W words
 abbrev pub do_test_heap : ℕ → ℕ → Machine → Effect

@@ -6,6 +6,7 @@ use Rattle.erl_term.specs.Term.{Term, Class}
 use Rattle.erl_term.specs.Terms.{class_word}
 use Rattle.world_model.specs.Run.{gives, raises, numbered}
 use Rattle.world_model.specs.World.{Request, Reply}
+use Rattle.step_machine.specs.Frames.{is_tag, lowest_tag}
 use Rattle.step_machine.specs.Steps.{Stepped, goes, ends, bad, asks}
 use Rattle.beam_table.specs.Code as C
 use Rattle.beam_table.specs.Code.{Reg, x_reg, y_reg, Source, reg, Insn, label, func_info, AsmFun, AsmModule}
@@ -28,9 +29,10 @@ is_set unset = false
 is_set killed = false
 is_set _ = true
 
-abbrev pub is_tag : Cell → Bool
-is_tag (tag k l) = true
-is_tag _ = false
+-- the handler whose tag a cell holds: its kind, and the label where a raise lands
+abbrev pub tag_in : Cell → Option (Kind × ℕ)
+tag_in (tag k l) = Some (k, l)
+tag_in _ = None
 
 -- the first n cells are there and set
 abbrev pub all_set : ℕ → List Cell → Bool
@@ -42,10 +44,6 @@ abbrev pub none_unset : List Cell → Bool
 none_unset [] = true
 none_unset (unset ∷ cs) = false
 none_unset (c ∷ cs) = none_unset cs
-
-abbrev pub no_tags : List Cell → Bool
-no_tags [] = true
-no_tags (c ∷ cs) = not (is_tag c) && no_tags cs
 
 -- the cells with one written anew; those between are unset
 abbrev pub with_cell : ℕ → Cell → List Cell → List Cell
@@ -110,7 +108,7 @@ abbrev pub write : Machine → Reg → Cell → (Machine → Effect) → Effect
 write m (x_reg n) c k = k (record m { xs = with_cell n c m.xs })
 write m (y_reg n) c k =
     outside_window m (in_frame m.frame λ ys. if_some (slice_get ys n) λ old.
-    needs (not (is_tag old)) (k (record m { frame = Some (with_cell n c ys) })))
+    needs (not (is_tag tag_in old)) (k (record m { frame = Some (with_cell n c ys) })))
 
 abbrev pub write_term : Machine → Reg → Term → (Machine → Effect) → Effect
 write_term m r t k = write m r (term t) k
@@ -140,15 +138,10 @@ leaves n m k = outside_window m (needs (all_set n m.xs) (k (record m { room = 0 
 abbrev pub builds : ℕ → Machine → (Machine → Effect) → Effect
 builds w m k = needs (leb w m.room) (k (record m { room = m.room - w }))
 
--- the lowest tag of a frame
-abbrev pub lowest_tag : List Cell → Option (Kind × ℕ)
-lowest_tag [] = None
-lowest_tag (tag k l ∷ ys) = Some (k, l)
-lowest_tag (c ∷ ys) = lowest_tag ys
-
+-- the lowest tag of a frame, if there is one
 abbrev pub tag_of : Option (List Cell) → Option (Kind × ℕ)
 tag_of None = None
-tag_of (Some ys) = lowest_tag ys
+tag_of (Some ys) = lowest_tag tag_in ys
 
 -- Labels.
 

@@ -1,7 +1,6 @@
 -- What each instruction does: one row an instruction, in the order of the table.
 use Rattle.std.specs.Prelude.{List, [], ◌∷◌, Bool, true, false, Option, Some, None, codes}
 use Rattle.erl_term.specs.Term as T
-use Rattle.erl_term.specs.Term.{Term}
 use Rattle.erl_term.specs.Terms.{word}
 use Rattle.step_machine.specs.Steps.{goes, bad}
 use Rattle.beam_table.specs.Binaries.{do_start_match, do_get_integer, do_get_binary, do_skip_bits, do_test_tail, do_test_unit, do_get_tail, do_get_position, do_set_position, do_create}

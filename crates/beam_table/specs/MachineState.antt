@@ -2,6 +2,7 @@
 use Rattle.std.specs.Prelude.{ℕ, List, Bool, Option}
 use Rattle.erl_term.specs.Term.{Term}
 use Rattle.world_model.specs.World.{Message}
+use Rattle.step_machine.specs.Frames.{MatchContext}
 use Rattle.beam_table.specs.Code.{Insn}
 
 pub data Kind : Type 0 where
@@ -19,17 +20,12 @@ pub record Activation : Type 0 where
   pub frame : Option (List Cell)
   pub back : List Insn
 
--- a bit string that is being matched, and how many of its bits were taken
-pub record Context : Type 0 where
-  pub bits : List Bool
-  pub at : ℕ
-
 pub record Machine : Type 0 where
   pub xs : List Cell
   pub frame : Option (List Cell)
   pub callers : List Activation
   pub room : ℕ
-  pub contexts : List Context
+  pub contexts : List MatchContext
   pub own : Term
   pub mailbox : List Message
   pub next_serial : ℕ

@@ -1,7 +1,7 @@
 -- Bounds on operands, and the labels that an instruction names.
-use Rattle.std.specs.Prelude.{ℕ, ◌^◌, List, [], ◌∷◌, ◌++◌, length, Bool, true, false, not, ◌&&◌, eqb, leb, ltb, Option, Some, None, if◌then◌else◌}
+use Rattle.std.specs.Prelude.{ℕ, ◌^◌, List, [], ◌∷◌, ◌++◌, length, Bool, true, false, not, ◌&&◌, eqb, leb, ltb, Option, Some, None}
 use Rattle.beam_table.specs.Code as C
-use Rattle.beam_table.specs.Code.{Reg, x_reg, y_reg, Source, reg, TypeTest, is_atom, is_integer, is_number, is_list, is_nonempty_list, is_nil, is_tuple, is_binary, is_bitstr, is_boolean, is_function, is_map, is_pid, is_port, is_reference, Comparison, is_eq_exact, is_ne_exact, is_eq, is_ne, is_lt, is_ge, is_function2, Extern, Flags, Segment, Insn, func_info, move, swap, init_yregs, allocate, allocate_heap, deallocate, trim, test_heap, return, put_list, put_tuple2, make_fun3, put_map_assoc, put_map_exact, get_list, get_hd, get_tl, get_tuple_element, get_map_elements, has_map_fields, jump, test, compares, test_arity, is_tagged_tuple, select_val, select_tuple_arity, bif, gc_bif, call, call_only, call_last, call_ext, call_ext_only, call_ext_last, call_fun, apply, apply_last, send, build_stacktrace, raise, badmatch, case_end, try_case_end, if_end, try, catch, try_end, try_case, catch_end, loop_rec, remove_message, loop_rec_end, wait, wait_timeout, timeout, recv_marker_reserve, recv_marker_bind, recv_marker_use, recv_marker_clear, bs_start_match4, bs_get_integer2, bs_get_binary2, bs_skip_bits2, bs_test_tail2, bs_test_unit, bs_get_tail, bs_get_position, bs_set_position, bs_create_bin}
+use Rattle.beam_table.specs.Code.{Reg, x_reg, y_reg, Source, reg, Insn, func_info, bif, gc_bif, call_ext, call_ext_only, call_ext_last}
 use Rattle.erl_term.specs.WellFormed.{maps_rise}
 use Rattle.beam_table.specs.TextRange.{in_signed, fits}
 use Rattle.bif_table.specs.Builtins.{is_guard, is_collecting, arity_of}

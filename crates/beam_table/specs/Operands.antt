@@ -1,9 +1,10 @@
 -- The operands of each instruction, with their kinds. From this table come the text of an instruction, the
 -- bounds on its operands, and the labels that it names.
-use Rattle.std.specs.Prelude.{ℕ, List, [], ◌∷◌, Bool, true, false, Option, if◌then◌else◌, codes}
+use Rattle.std.specs.Prelude.{ℕ, List, [], ◌∷◌, Bool, true, false, Option, codes}
 use Rattle.erl_base.specs.Names.{Name}
+use Rattle.bif_table.specs.Builtins.{name_of}
 use Rattle.beam_table.specs.Code.{Reg, Source, Extern, Flags, Segment, Insn, func_info, move, swap, init_yregs, allocate, allocate_heap, deallocate, trim, test_heap, return, put_list, put_tuple2, make_fun3, put_map_assoc, put_map_exact, get_list, get_hd, get_tl, get_tuple_element, get_map_elements, has_map_fields, jump, test, compares, test_arity, is_tagged_tuple, select_val, select_tuple_arity, bif, gc_bif, call, call_only, call_last, call_ext, call_ext_only, call_ext_last, call_fun, apply, apply_last, send, build_stacktrace, raise, badmatch, case_end, try_case_end, if_end, try, catch, try_end, try_case, catch_end, loop_rec, remove_message, loop_rec_end, wait, wait_timeout, timeout, recv_marker_reserve, recv_marker_bind, recv_marker_use, recv_marker_clear, bs_start_match4, bs_get_integer2, bs_get_binary2, bs_skip_bits2, bs_test_tail2, bs_test_unit, bs_get_tail, bs_get_position, bs_set_position, bs_create_bin}
-use Rattle.beam_table.specs.OperandWords.{type_word, comparison_word, bif_word}
+use Rattle.beam_table.specs.OperandWords.{type_word, comparison_word}
 
 mutual
   pub data Operand : Type 0 where
@@ -88,8 +89,8 @@ operands (test_arity l s n) = tested (codes "test_arity") (own_label l then item
 operands (is_tagged_tuple l s n a) = tested (codes "is_tagged_tuple") (own_label l then items (source s then amount n then atom_operand a then end) then end)
 operands (select_val s l cs) = (codes "select_val", source s then own_label l then list (each (λ c r. source c.0 then own_label c.1 then r) cs) then end)
 operands (select_tuple_arity s l cs) = (codes "select_tuple_arity", source s then own_label l then list (each (λ c r. amount c.0 then own_label c.1 then r) cs) then end)
-operands (bif b l ss d) = (codes "bif", word (bif_word b) then label_or_zero l then items (sources ss) then register d then end)
-operands (gc_bif b l k ss d) = (codes "gc_bif", word (bif_word b) then label_or_zero l then live k then items (sources ss) then register d then end)
+operands (bif b l ss d) = (codes "bif", word (name_of b) then label_or_zero l then items (sources ss) then register d then end)
+operands (gc_bif b l k ss d) = (codes "gc_bif", word (name_of b) then label_or_zero l then live k then items (sources ss) then register d then end)
 operands (call n l) = (codes "call", arity n then entry_label l then end)
 operands (call_only n l) = (codes "call_only", arity n then entry_label l then end)
 operands (call_last n l k) = (codes "call_last", arity n then entry_label l then amount k then end)

@@ -2,15 +2,11 @@
 use Rattle.std.specs.Prelude.{Bool, true, false, ℕ, map, Option, Some, None}
 use Rattle.erl_base.specs.declared.ids.LabelId.{LabelId}
 use Rattle.erl_term.specs.View.{view, attribute_view}
-use Rattle.bif_table.specs.View.{bif_view}
+use Rattle.bif_table.specs.View.{bif_view, type_view, comparison_view}
 use Rattle.beam_table.specs.declared.operand.Reg.{Reg}
 use Rattle.beam_table.specs.declared.operand.Reg.TheVariants as R
 use Rattle.beam_table.specs.declared.operand.Source.{Source}
 use Rattle.beam_table.specs.declared.operand.Source.TheVariants as S
-use Rattle.beam_table.specs.declared.operand.TypeTest.{TypeTest}
-use Rattle.beam_table.specs.declared.operand.TypeTest.TheVariants as TT
-use Rattle.beam_table.specs.declared.operand.Comparison.{Comparison}
-use Rattle.beam_table.specs.declared.operand.Comparison.TheVariants as CT
 use Rattle.beam_table.specs.declared.operand.SegmentKind.{SegmentKind}
 use Rattle.beam_table.specs.declared.operand.SegmentKind.TheVariants as SK
 use Rattle.beam_table.specs.declared.operand.Extern.{Extern}
@@ -36,32 +32,6 @@ source_view (S.Atom a) = Plain.atom (a)
 source_view (S.Integer z) = Plain.integer z
 source_view S.Nil = Plain.nil
 source_view (S.Literal t) = Plain.literal (view t)
-
-abbrev pub type_view : TypeTest → Plain.TypeTest
-type_view TT.IsAtom = Plain.is_atom
-type_view TT.IsInteger = Plain.is_integer
-type_view TT.IsNumber = Plain.is_number
-type_view TT.IsList = Plain.is_list
-type_view TT.IsNonemptyList = Plain.is_nonempty_list
-type_view TT.IsNil = Plain.is_nil
-type_view TT.IsTuple = Plain.is_tuple
-type_view TT.IsBinary = Plain.is_binary
-type_view TT.IsBitstr = Plain.is_bitstr
-type_view TT.IsBoolean = Plain.is_boolean
-type_view TT.IsFunction = Plain.is_function
-type_view TT.IsMap = Plain.is_map
-type_view TT.IsPid = Plain.is_pid
-type_view TT.IsPort = Plain.is_port
-type_view TT.IsReference = Plain.is_reference
-
-abbrev pub comparison_view : Comparison → Plain.Comparison
-comparison_view CT.IsEqExact = Plain.is_eq_exact
-comparison_view CT.IsNeExact = Plain.is_ne_exact
-comparison_view CT.IsEq = Plain.is_eq
-comparison_view CT.IsNe = Plain.is_ne
-comparison_view CT.IsLt = Plain.is_lt
-comparison_view CT.IsGe = Plain.is_ge
-comparison_view CT.IsFunction2 = Plain.is_function2
 
 abbrev pub is_binary : SegmentKind → Bool
 is_binary SK.Integer = false

@@ -20,7 +20,6 @@ pub use laws::{
     steps_enter_at_most_one, steps_keep_the_stack,
 };
 pub use operand::{
-    BuiltSegments, Comparison, Extern, Flags, GetPair, GetPairs, PutPair, PutPairs, Reg, Segment,
-    SegmentKind, SizeChoice, SizeChoices, Slots, Source, Sources, TypeTest, ValueChoice,
-    ValueChoices,
+    BuiltSegments, Extern, Flags, GetPair, GetPairs, PutPair, PutPairs, Reg, Segment, SegmentKind,
+    SizeChoice, SizeChoices, Slots, Source, Sources, ValueChoice, ValueChoices,
 };

@@ -5,11 +5,11 @@ use Rattle.std.specs.declared.cmp.Ordering.{Ordering}
 use Rattle.std.specs.declared.cmp.Ordering.TheVariants.{Less, Equal, Greater}
 use Rattle.erl_base.specs.Names.{Name}
 use Rattle.erl_term.specs.Term as T
-use Rattle.erl_term.specs.Term.{Term, Terms, none, more, Pairs, Class}
+use Rattle.erl_term.specs.Term.{Term, Terms, none, more, Class}
 use Rattle.erl_term.specs.TermOrder.{compare, count, pair_count, same_term}
 use Rattle.erl_term.specs.Terms.{word, truth, tagged, value_at, is_there}
 pub use Rattle.bif_table.specs.Builtins.{Bif, Add, Subtract, Multiply, Plus, Negate, Div, Rem, Band, Bor, Bxor, Bnot, Bsl, Bsr, Abs, Round, Trunc, Ceil, Floor, Equals, Exactly, Differs, ExactlyNot, Below, AtMost, Above, AtLeast, And, Or, Xor, Not, IsAtom, IsBinary, IsBitstring, IsBoolean, IsFloat, IsFunction, IsInteger, IsList, IsMap, IsNumber, IsPid, IsPort, IsReference, IsTuple, IsFunction2, IsRecord2, IsRecord3, Element, TupleSize, Size, ByteSize, BitSize, Length, Hd, Tl, MapSize, IsMapKey, MapGet, Self, Error1, Error2, Exit1, Throw1}
-pub use Rattle.bif_table.specs.Builtins.{Row, row, guard_rows, raising_rows, look_up, either_bif, lookup_guard, lookup_raising, lookup}
+pub use Rattle.bif_table.specs.Builtins.{lookup}
 pub use Rattle.bif_table.specs.Kinds.{truth_of, is_int, is_atom, is_bits, is_bytes, is_truth, is_fun, is_list, is_map, is_pid, is_port, is_reference, is_tuple, has_arity}
 use Rattle.bif_table.specs.TwosComplement.{int_not, int_and, int_or, int_xor, shift_left, shift_right}
 

@@ -37,11 +37,19 @@ is_fun (T.fun m s a ts) = true
 is_fun (T.extern m f a) = true
 is_fun _ = false
 
--- nil and cells
+-- nil and cells; a cell alone; nil alone
 abbrev pub is_list : Term → Bool
 is_list T.nil = true
 is_list (T.cons x y) = true
 is_list _ = false
+
+abbrev pub is_cell : Term → Bool
+is_cell (T.cons x y) = true
+is_cell _ = false
+
+abbrev pub is_nil : Term → Bool
+is_nil T.nil = true
+is_nil _ = false
 
 abbrev pub is_map : Term → Bool
 is_map (T.map ps) = true

@@ -11,6 +11,10 @@ is_blank c = c == 32 || c == 9 || c == 10 || c == 12 || c == 13
 abbrev pub is_lower : ℕ → Bool
 is_lower c = is_in_range 97 122 c
 
+-- A to Z
+abbrev pub is_upper : ℕ → Bool
+is_upper c = is_in_range 65 90 c
+
 abbrev pub is_digit : ℕ → Bool
 is_digit c = is_in_range 48 57 c
 
@@ -22,7 +26,7 @@ is_hex c = is_digit c || is_in_range 65 70 c || is_in_range 97 102 c
 
 -- what begins a variable: A to Z, U+00C0 to U+00DE without the multiplication sign, and the underscore
 abbrev pub is_capital : ℕ → Bool
-is_capital c = is_in_range 65 90 c || (is_in_range 192 222 c && not (c == 215)) || c == 95
+is_capital c = is_upper c || (is_in_range 192 222 c && not (c == 215)) || c == 95
 
 -- what goes on a word or a variable: ASCII letters and digits, the underscore, the at sign,
 -- and U+00C0 to U+00FF without the multiplication and the division sign

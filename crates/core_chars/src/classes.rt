@@ -1,7 +1,7 @@
 // The classes of characters, and the number that digits write.
 ghost use Rattle.std.specs.Prelude.{◌≡◌, ◌≤◌, length, take_while};
 ghost use Rattle.std.specs.Char.{digit_value};
-ghost use Rattle.core_chars.specs.Characters.{is_blank, is_lower, is_digit, is_octal, is_hex, is_capital, is_name_char, is_sign, is_exponent_mark, is_in_line};
+ghost use Rattle.core_chars.specs.Characters.{is_blank, is_lower, is_upper, is_digit, is_octal, is_hex, is_capital, is_name_char, is_sign, is_exponent_mark, is_in_line};
 
 pub fn is_blank(c: char) -> bool
     ensures { result ≡ is_blank c }
@@ -13,6 +13,12 @@ pub fn is_lower(c: char) -> bool
     ensures { result ≡ is_lower c }
 {
     'a' <= c && c <= 'z'
+}
+
+pub fn is_upper(c: char) -> bool
+    ensures { result ≡ is_upper c }
+{
+    'A' <= c && c <= 'Z'
 }
 
 /// A decimal digit.
@@ -37,7 +43,7 @@ pub fn is_hex(c: char) -> bool
 pub fn is_capital(c: char) -> bool
     ensures { result ≡ is_capital c }
 {
-    'A' <= c && c <= 'Z' || ('À' <= c && c <= 'Þ') && c != '×' || c == '_'
+    is_upper(c) || ('À' <= c && c <= 'Þ') && c != '×' || c == '_'
 }
 
 pub fn is_name_char(c: char) -> bool

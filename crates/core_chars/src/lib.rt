@@ -13,8 +13,8 @@ mod laws;
 mod quoted;
 
 pub use classes::{
-    digits_len, is_blank, is_capital, is_digit, is_exponent_mark, is_lower, is_sign, line_len,
-    name_len,
+    digits_len, is_blank, is_capital, is_digit, is_exponent_mark, is_lower, is_sign, is_upper,
+    line_len, name_len,
 };
 pub use digits::{CEILING, magnitude_of, negative};
 pub use escape::quoted_char;

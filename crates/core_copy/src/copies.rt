@@ -1,12 +1,12 @@
-// Copies of the tree. The functions that call each other put nothing together and let nothing go: each hands on what the
-// calls below it answered, and what puts the parts together stands in a crate below.
+// Copies of the tree. The functions that call each other put nothing together and let nothing go: each hands on what
+// the calls below it answered, and what puts the parts together stands in a crate below.
 ghost use Rattle.std.specs.Prelude.{◌≡◌, IfOk};
 
+use core_form::build::{exprs, lists, nodes, patterns};
 use core_form::{
     Clause, Clauses, Def, Defs, Expr, ExprForm, Exprs, KeyPattern, KeyPatterns, MapPart, MapParts,
     Pattern, PatternForm, Patterns, SegPattern, SegPatterns, Segment, Segments,
 };
-use core_make::{exprs, lists, nodes, patterns};
 use erl_base::{Boxed, Duplicate, List, NoMemory};
 use std::alloc::Global;
 

@@ -1,10 +1,10 @@
 use crate::CoreCopy;
+use core_form::build::{exprs, lists, nodes, patterns};
 use core_form::{
     Binder, Binders, Clauses, Defs, Expr, ExprForm, Exprs, FunName, KeyPattern, KeyPatterns,
     MapPart, MapParts, Module, Pattern, PatternForm, Patterns, SegPattern, SegPatterns, Segment,
     Segments,
 };
-use core_make::{exprs, lists, nodes, patterns};
 use erl_base::{Boxed, FunKey, List, Name, NoMemory, Place};
 use erl_term::Term;
 use std::alloc::Global;

@@ -5,8 +5,8 @@ use crate::copies::{
     copy_clause, copy_def, copy_defs, copy_expr, copy_key, copy_part, copy_pattern,
     copy_seg_pattern, copy_segment,
 };
+use core_form::build::nodes;
 use core_form::{Clause, Def, Expr, KeyPattern, MapPart, Module, Pattern, SegPattern, Segment};
-use core_make::nodes;
 use erl_base::{List, NoMemory};
 use std::alloc::Global;
 

@@ -20,8 +20,8 @@ pub struct Expr {
 }
 
 /// What an expression is. `Map` without a base makes a map, with one it puts pairs into the base. `Try` has the tried
-/// part, the variables and body for its values, and the variables and body for what it raises. `Receive` has the clauses,
-/// the timeout and the body after it.
+/// part, the variables and body for its values, and the variables and body for what it raises. `Receive` has the
+/// clauses, the timeout and the body after it.
 #[cycle(tree)]
 #[derive(Drop)]
 pub enum ExprForm {

@@ -1,6 +1,5 @@
 -- Which guards demand a reference: examples, computed. R is binding 0, made by a let; the clause's pattern binds M.
-use Rattle.std.proofs.Common.{◌≡◌, ℕ, List, [], ◌∷◌, Option, Some, None, codes, refl}
-use Rattle.erl_base.specs.Names.{Name}
+use Rattle.std.proofs.Common.{◌≡◌, ℕ, [], ◌∷◌, Option, Some, None, codes, refl}
 use Rattle.core_form.specs.Core as C
 use Rattle.core_form.specs.Core.{Expr, Clause}
 use Rattle.core_form.specs.Scope.{Scope, variable}

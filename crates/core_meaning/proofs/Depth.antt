@@ -5,11 +5,11 @@ use Rattle.erl_term.specs.Terms.{Values}
 use Rattle.world_model.specs.Run.{Entry, entered, State, Outcome, gives, raises, waits, spent, M, ◌>>=◌, after, going_on, noting}
 use Rattle.world_model.specs.Meaning.{ends, ending, either}
 use Rattle.core_meaning.specs.ClauseChoice.{blank}
-use Rattle.core_meaning.specs.Calls.{entry_left}
+use Rattle.world_model.specs.Entries.{entry_left, counted}
 use Rattle.core_meaning.specs.CoreRun.{Known, deep}
 use Rattle.core_meaning.specs.RunLaws.{DepthIsEnough}
 use Rattle.core_meaning.proofs.Rules.{with_left, Quiet, Logic}
-use Rattle.core_meaning.proofs.EveryRule.{at_entry, site_ok}
+use Rattle.core_meaning.proofs.EveryRule.{site_ok}
 use Rattle.core_meaning.proofs.Longer.{after_low, ends_low, left_low}
 
 -- the same from each state with fewer than b entries left
@@ -68,7 +68,7 @@ left_near : {A : Type 0} (b : ℕ) (m n : M A) → Near b m n → (e : Entry) (k
 left_near b m n r e zero s l = refl
 left_near b m n r e (suc k) s l = r.same (noting (entered e) (with_left k s)) (omega (arith, l))
 
-entry_near : {A : Type 0} (b : ℕ) (m n : M A) → Near b m n → (e : Entry) → Near (suc b) (at_entry e m) (at_entry e n)
+entry_near : {A : Type 0} (b : ℕ) (m n : M A) → Near b m n → (e : Entry) → Near (suc b) (counted e m) (counted e n)
 entry_near b m n r e = record { low = λ s. left_low m r.low e s.left s refl; same = λ s l. left_near b m n r e s.left s l }
 
 pub deep_near : (m : Known) (d k n : ℕ) (vs : Values) → d ≤ k → Near d (deep m d n vs) (deep m k n vs)

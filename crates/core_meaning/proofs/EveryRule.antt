@@ -9,6 +9,8 @@ use Rattle.bif_table.specs.BuiltinAnswer.{answer, lookup, Bif}
 use Rattle.world_model.specs.World as W
 use Rattle.world_model.specs.World.{Delay, forever, millis, Request, Reply, Message}
 use Rattle.world_model.specs.Run.{Entry, State, happened, looked, Outcome, M, give, fail, answered, numbered, noting}
+use Rattle.world_model.specs.RemoteCalls.{apply_term, call_erlang, call_terms}
+use Rattle.world_model.specs.Entries.{counted, entering}
 use Rattle.world_model.specs.Requests.{call_out, send_or_call, is_send, answers}
 use Rattle.world_model.specs.Receive.{Timeout, now, in', wrong, timeout_of, Tried, cutting, taking, take_message, pass_over, try_each, looking, waiting, new_or, receiving}
 use Rattle.core_form.specs.Core.{Expr, values, var, fun_name, literal, list, tuple, new_map, map_of, binary, fun, let_in, letrec, case, apply, call, primop, do_then, catch, try, receive, Exprs, no_expr, and_expr, MapParts, no_part, and_part, map_part, Segments, no_segment, and_segment, segment, Clauses, no_clause, and_clause, clause}
@@ -17,11 +19,12 @@ use Rattle.core_form.specs.Captures.{sites_in, sites_in_all, sites_in_parts, sit
 use Rattle.core_form.specs.Sites.{Site}
 use Rattle.core_form.specs.Walks.{expr_count}
 use Rattle.core_meaning.specs.SegmentShape.{shape_of}
+use Rattle.core_meaning.specs.SegmentMatch.{if_there}
 use Rattle.core_meaning.specs.PatternMatch.{match_all}
 use Rattle.core_meaning.specs.MarkedReceive.{marked_with}
-use Rattle.core_meaning.specs.Calls.{Here, entry_left, entering, apply_term, call_erlang, call_terms}
-use Rattle.core_meaning.specs.Context.{Context, inner, past, captured_terms, value_of}
-use Rattle.core_meaning.specs.ClauseChoice.{case_end, case_tried, taken_if, guarded, if_bound, and_cuts, none_tried}
+use Rattle.core_meaning.specs.Calls.{Activation, callees}
+use Rattle.core_meaning.specs.EvaluationContext.{EvaluationContext, inner, past, captured_terms, value_of}
+use Rattle.core_meaning.specs.ClauseChoice.{case_end, case_tried, taken_if, guarded, and_cuts, none_tried}
 use Rattle.core_meaning.specs.MarkingCalls.{awaited}
 use Rattle.core_meaning.specs.Evaluation.{build_each, name_of, if_named, apply_name, eval, eval_all, eval_parts, eval_segments, choose}
 use Rattle.core_meaning.specs.CoreRun.{run_site}
@@ -107,7 +110,7 @@ more_cuts_ok L n t t' h = record { cuts = ap (λ k. n + k) h.cuts; body = h.body
 guarded_ok : (L : Logic) (r r' : State × Outcome Values) (m m' : M Values) (t t' : Tried Values) → r ≡ r' → L.Rel m m' → TriedRel L t t' → TriedRel L (guarded r m t) (guarded r' m' t')
 guarded_ok L r r' m m' t t' e k h = subst (λ q. TriedRel L (guarded r m t) (guarded q m' t')) e (more_cuts_ok L _ _ _ (taken_ok L _ m m' t t' k h))
 
-bound_ok : (L : Logic) (o : Option Values) (f f' : Values → Tried Values) (t t' : Tried Values) → ((ws : Values) → TriedRel L (f ws) (f' ws)) → TriedRel L t t' → TriedRel L (if_bound o f t) (if_bound o f' t')
+bound_ok : (L : Logic) (o : Option Values) (f f' : Values → Tried Values) (t t' : Tried Values) → ((ws : Values) → TriedRel L (f ws) (f' ws)) → TriedRel L t t' → TriedRel L (if_there o f t) (if_there o f' t')
 bound_ok L None f f' t t' h k = k
 bound_ok L (Some ws) f f' t t' h k = h ws
 
@@ -117,25 +120,22 @@ no_clause_ok L = record { cuts = refl; body = tt }
 
 -- Expressions, evaluated with two ways to enter a function that are related once the entry is noted.
 
-abbrev pub entered_with : Here → (ℕ → Values → M Term) → Here
+abbrev pub entered_with : Activation → (ℕ → Values → M Term) → Activation
 entered_with here f = record here { enter = f }
 
-abbrev pub at_entry : {A : Type 0} → Entry → M A → M A
-at_entry e m = λ s. entry_left s.left e m s
-
-module _ (L : Logic) (here : Here) (f : ℕ → Values → M Term) (enters : (e : Entry) (n : ℕ) (vs : Values) → L.Rel (at_entry e (here.enter n vs)) (at_entry e (f n vs))) where
-  abbrev there : Here
+module _ (L : Logic) (here : Activation) (f : ℕ → Values → M Term) (enters : (e : Entry) (n : ℕ) (vs : Values) → L.Rel (counted e (here.enter n vs)) (counted e (f n vs))) where
+  abbrev there : Activation
   there = entered_with here f
 
-  entering_ok : (n : ℕ) (tail : Bool) (vs : Values) → L.Rel (entering here n tail vs) (entering there n tail vs)
-  entering_ok n tail vs = L.bound (at_entry _ (here.enter n vs)) (at_entry _ (f n vs)) _ _ (enters (record { site = n; tail = tail }) n vs) (λ t. single_ok L t)
+  entering_ok : (n : ℕ) (tail : Bool) (vs : Values) → L.Rel (entering here.enter n tail vs) (entering f n tail vs)
+  entering_ok n tail vs = L.bound (counted _ (here.enter n vs)) (counted _ (f n vs)) _ _ (enters (record { site = n; tail = tail }) n vs) (λ t. single_ok L t)
 
-  apply_ok : (vs : Values) (t : Term) → L.Rel (apply_term here vs t) (apply_term there vs t)
-  apply_ok vs (T.fun m s a cs) = if_ok L _ _ _ _ _ (L.failed _ _) (if_ok L _ _ _ _ _ (entering_ok _ _ _) (call_out_ok L _ _ _))
-  apply_ok vs (T.extern m g a) = if_ok L _ _ _ _ _ (L.failed _ _) (call_out_ok L _ _ _)
-  apply_ok vs _ = L.failed _ _
+  apply_ok : (t : Term) (vs : Values) → L.Rel (apply_term (callees here) t vs) (apply_term (callees there) t vs)
+  apply_ok (T.fun m s a cs) vs = if_ok L _ _ _ _ _ (L.failed _ _) (if_ok L _ _ _ _ _ (entering_ok _ _ _) (call_out_ok L _ _ _))
+  apply_ok (T.extern m g a) vs = if_ok L _ _ _ _ _ (L.failed _ _) (call_out_ok L _ _ _)
+  apply_ok _ vs = L.failed _ _
 
-  erlang_ok : (g : Name) (vs : Values) → L.Rel (call_erlang here g vs) (call_erlang there g vs)
+  erlang_ok : (g : Name) (vs : Values) → L.Rel (call_erlang here.own g vs) (call_erlang here.own g vs)
   unfolding call_erlang
   erlang_ok g vs = go (lookup g (length vs))
     where
@@ -145,18 +145,18 @@ module _ (L : Logic) (here : Here) (f : ℕ → Values → M Term) (enters : (e 
       go None = if_ok L (is_send g) _ _ _ _ (send_ok L g vs) (call_out_ok L (codes "erlang") g vs)
       go (Some b) = answers_ok L (answer b here.own vs)
 
-  call_ok : (t u : Term) (vs : Values) → L.Rel (call_terms here t u vs) (call_terms there t u vs)
+  call_ok : (t u : Term) (vs : Values) → L.Rel (call_terms here.own t u vs) (call_terms here.own t u vs)
   unfolding call_terms
   call_ok (T.atom m) (T.atom g) vs = if_ok L (same_name m (codes "erlang")) _ _ _ _ (erlang_ok g vs) (call_out_ok L m g vs)
   call_ok (T.atom m) _ vs = L.failed _ _
   call_ok _ _ vs = L.failed _ _
 
-  name_ok : (c : Context) (k : FunKey) (vs : Values) → L.Rel (apply_name here c k vs) (apply_name there c k vs)
+  name_ok : (c : EvaluationContext) (k : FunKey) (vs : Values) → L.Rel (apply_name here c k vs) (apply_name there c k vs)
   name_ok c k vs = go (function_of c.scope k)
     where
       go : (o : Option (ℕ × List Use)) →
-          let m : M Values = elim o [ None ↦ give [] | Some g ↦ entering here g.0 c.tail (vs ++ captured_terms c.env g.1) ] in
-          let m' : M Values = elim o [ None ↦ give [] | Some g ↦ entering there g.0 c.tail (vs ++ captured_terms c.env g.1) ] in
+          let m : M Values = elim o [ None ↦ give [] | Some g ↦ entering here.enter g.0 c.tail (vs ++ captured_terms c.env g.1) ] in
+          let m' : M Values = elim o [ None ↦ give [] | Some g ↦ entering f g.0 c.tail (vs ++ captured_terms c.env g.1) ] in
           L.Rel m m'
       go None = L.given _
       go (Some g) = entering_ok _ _ _
@@ -165,20 +165,20 @@ module _ (L : Logic) (here : Here) (f : ℕ → Values → M Term) (enters : (e 
   named_ok None n g g' m m' h k = k
   named_ok (Some j) n g g' m m' h k = if_ok L _ _ _ _ _ (h j) k
 
-  end_ok : (e : Expr) (c : Context) (vs : Values) (o o' : Option (M Values)) → OptionRel L o o' → L.Rel (case_end here e c vs o) (case_end there e c vs o')
+  end_ok : (e : Expr) (c : EvaluationContext) (vs : Values) (o o' : Option (M Values)) → OptionRel L o o' → L.Rel (case_end here e c vs o) (case_end there e c vs o')
   unfolding OptionRel
   end_ok e c vs None None k = cutting_ok L _ _ _ (L.failed _ _)
   end_ok e c vs None (Some n) k = absurd k
   end_ok e c vs (Some m) None k = absurd k
   end_ok e c vs (Some m) (Some n) k = k
 
-  tried_ok : (e : Expr) (c : Context) (vs : Values) (t t' : Tried Values) → TriedRel L t t' → L.Rel (case_tried here e c vs t) (case_tried there e c vs t')
+  tried_ok : (e : Expr) (c : EvaluationContext) (vs : Values) (t t' : Tried Values) → TriedRel L t t' → L.Rel (case_tried here e c vs t) (case_tried there e c vs t')
   tried_ok e c vs t t' h = subst (λ n. L.Rel (case_tried here e c vs t) (cutting n (case_end there e c vs t'.body))) h.cuts (cutting_ok L t.cuts _ _ (end_ok e c vs t.body t'.body h.body))
 
   mutual
     unfolding eval
 
-    pub eval_ok : (e : Expr) (c : Context) → L.Rel (eval here e c) (eval there e c)
+    pub eval_ok : (e : Expr) (c : EvaluationContext) → L.Rel (eval here e c) (eval there e c)
     eval_ok (values p es) c = all_ok es _
     eval_ok (var p x) c = L.given _
     eval_ok (fun_name p g) c = L.given _
@@ -194,7 +194,7 @@ module _ (L : Logic) (here : Here) (f : ℕ → Values → M Term) (enters : (e 
     eval_ok (case p e cs) c = L.bound _ _ _ _ (eval_ok e _) (λ vs. tried_ok e c vs _ _ (choose_ok cs vs _))
     eval_ok (apply p e es) c =
         named_ok (name_of e) (expr_count es) _ _ _ _ (λ k. L.bound _ _ _ _ (all_ok es (inner c)) (λ vs. name_ok c k vs))
-        (one_ok L _ _ _ _ (eval_ok e (inner c)) (λ t. L.bound _ _ _ _ (all_ok es (past (sites_in e) (inner c))) (λ vs. apply_ok vs t)))
+        (one_ok L _ _ _ _ (eval_ok e (inner c)) (λ t. L.bound _ _ _ _ (all_ok es (past (sites_in e) (inner c))) (λ vs. apply_ok t vs)))
     eval_ok (call p m g es) c =
         one_ok L _ _ _ _ (eval_ok m (inner c)) (λ t. one_ok L _ _ _ _ (eval_ok g (past (sites_in m) (inner c))) (λ u. L.bound _ _ _ _ (all_ok es (past (sites_in m + sites_in g) (inner c))) (λ vs. call_ok t u vs)))
     eval_ok (primop p n es) c = L.bound _ _ _ _ (all_ok es _) (λ vs. primitive_ok L n vs)
@@ -205,21 +205,21 @@ module _ (L : Logic) (here : Here) (f : ℕ → Values → M Term) (enters : (e 
         one_ok L _ _ _ _ (eval_ok t _) (λ u. beginning_ok L (awaited c (marked_with cs c.scope c.lets)) _ _
         (receiving_ok L (λ x. choose here cs (x ∷ []) c) (λ x. choose there cs (x ∷ []) c) (λ x. choose_ok cs (x ∷ []) c) (timeout_of u) _ _ (eval_ok b (past (sites_in_clauses cs + sites_in t) c))))
 
-    all_ok : (es : Exprs) (c : Context) → L.Rel (eval_all here es c) (eval_all there es c)
+    all_ok : (es : Exprs) (c : EvaluationContext) → L.Rel (eval_all here es c) (eval_all there es c)
     all_ok no_expr c = L.given _
     all_ok (and_expr e es) c = one_ok L _ _ _ _ (eval_ok e c) (λ t. L.bound _ _ _ _ (all_ok es (past (sites_in e) c)) (λ vs. L.given (t ∷ vs)))
 
-    parts_ok : (ps : MapParts) (c : Context) → L.Rel (eval_parts here ps c) (eval_parts there ps c)
+    parts_ok : (ps : MapParts) (c : EvaluationContext) → L.Rel (eval_parts here ps c) (eval_parts there ps c)
     parts_ok no_part c = L.given _
     parts_ok (and_part (map_part k v x) ps) c =
         one_ok L _ _ _ _ (eval_ok k c) (λ t. one_ok L _ _ _ _ (eval_ok v (past (sites_in k) c)) (λ u. L.bound _ _ _ _ (parts_ok ps (past (sites_in k + sites_in v) c)) (λ qs. L.given (record { key = t; value = u; exact = x } ∷ qs))))
 
-    segments_ok : (ss : Segments) (c : Context) → L.Rel (eval_segments here ss c) (eval_segments there ss c)
+    segments_ok : (ss : Segments) (c : EvaluationContext) → L.Rel (eval_segments here ss c) (eval_segments there ss c)
     segments_ok no_segment c = L.given _
     segments_ok (and_segment (segment p v s u k g) ss) c =
         one_ok L _ _ _ _ (eval_ok v c) (λ t. one_ok L _ _ _ _ (eval_ok s (past (sites_in v) c)) (λ n. L.bound _ _ _ _ (segments_ok ss (past (sites_in v + sites_in s) c)) (λ xs. L.given (record { shape = shape_of s u k g; value = t; size = n } ∷ xs))))
 
-    choose_ok : (cs : Clauses) (vs : Values) (c : Context) → TriedRel L (choose here cs vs c) (choose there cs vs c)
+    choose_ok : (cs : Clauses) (vs : Values) (c : EvaluationContext) → TriedRel L (choose here cs vs c) (choose there cs vs c)
     choose_ok no_clause vs c = no_clause_ok L
     choose_ok (and_clause (clause p qs g e) cs) vs c =
         more_cuts_ok L _ _ _ (bound_ok L (match_all (value_of c) qs (terms vs)) _ _ _ _ (λ ws. guarded_ok L _ _ _ _ _ _ (L.guard _ _ (eval_ok g _)) (eval_ok e _) (choose_ok cs vs _)) (choose_ok cs vs _))

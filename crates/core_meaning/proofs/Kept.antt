@@ -6,7 +6,7 @@ use Rattle.erl_term.specs.Terms.{Values}
 use Rattle.world_model.specs.World.{Script}
 use Rattle.world_model.specs.Run.{Entry, entered, State, Note, entries, Outcome, gives, raises, waits, spent, M, ◌>>=◌, after, noting}
 use Rattle.world_model.specs.Meaning.{ends, either}
-use Rattle.core_meaning.specs.Calls.{entry_left}
+use Rattle.world_model.specs.Entries.{entry_left}
 use Rattle.core_meaning.specs.CoreRun.{Known, deep, start}
 use Rattle.core_meaning.specs.RunLaws.{EntriesAreSpent}
 use Rattle.core_meaning.proofs.Rules.{with_left, Quiet, Logic}

@@ -4,9 +4,8 @@ use Rattle.erl_term.specs.Term.{Term, Class}
 use Rattle.world_model.specs.Run.{Entry, entered, State, Note, Outcome, gives, raises, waits, spent, M, ◌>>=◌, after, going_on, noting}
 use Rattle.world_model.specs.Meaning.{ends, ending, either}
 use Rattle.core_meaning.specs.ClauseChoice.{blank}
-use Rattle.core_meaning.specs.Calls.{entry_left}
+use Rattle.world_model.specs.Entries.{entry_left, counted}
 use Rattle.core_meaning.proofs.Rules.{with_left, Quiet, Logic}
-use Rattle.core_meaning.proofs.EveryRule.{at_entry}
 use Rattle.core_meaning.proofs.Kept.{Grown, grown_twice}
 
 -- j more
@@ -150,7 +149,7 @@ left_none : {A : Type 0} (m n : M A) (e : Entry) (k : ℕ) (s : State) → k ≡
 left_none m n e zero s z = refl
 left_none m n e (suc k) s z = absurd (omega (arith, z))
 
-pub entry_longer : {A : Type 0} (d j : ℕ) (m n : M A) → Longer d j m n → (e : Entry) → Longer (suc d) j (at_entry e m) (at_entry e n)
+pub entry_longer : {A : Type 0} (d j : ℕ) (m n : M A) → Longer d j m n → (e : Entry) → Longer (suc d) j (counted e m) (counted e n)
 entry_longer d j m n r e = record {
   low = λ s. left_low m r.low e s.left s refl;
   grows = λ s. more_grows n r.grows e s.left s;

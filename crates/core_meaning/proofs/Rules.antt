@@ -11,9 +11,10 @@ use Rattle.world_model.specs.World.{Delay, forever, millis, Request, Reply, Mess
 use Rattle.world_model.specs.Run.{State, Note, happened, entered, looked, marked, began, cut, entries, gives, waits, M, ◌>>=◌, give, fail, ask, ask_from, answered, noting}
 use Rattle.world_model.specs.Meaning.{one, single, either}
 use Rattle.world_model.specs.Requests.{replied, sent, call_out, send_or_call, answers, exit_of}
+use Rattle.world_model.specs.RemoteCalls.{raise_again}
 use Rattle.world_model.specs.MapUpdate.{put_all, put_each, Put}
 use Rattle.world_model.specs.Receive.{cutting}
-use Rattle.core_meaning.specs.Calls.{primitive, raise_again}
+use Rattle.core_meaning.specs.Calls.{primitive}
 use Rattle.core_meaning.specs.ClauseChoice.{blank}
 use Rattle.core_meaning.specs.MarkingCalls.{marking, last_mark, beginning}
 use Rattle.core_meaning.specs.Evaluation.{or_badarg}

@@ -5,15 +5,14 @@ use Rattle.erl_base.specs.Names.{same_name}
 use Rattle.erl_term.specs.Term as T
 use Rattle.erl_term.specs.Term.{Term}
 use Rattle.erl_term.specs.Terms.{Values, terms, tagged}
-use Rattle.world_model.specs.Run.{State, Outcome, gives, M, fail}
+use Rattle.world_model.specs.Run.{State, sub_binaries, Outcome, gives, M, fail}
 use Rattle.world_model.specs.Receive.{Tried, cutting}
 use Rattle.core_form.specs.Core.{Expr, var, Exprs, no_expr, and_expr}
 use Rattle.core_form.specs.Scope.{Scope, binding}
 use Rattle.core_meaning.specs.MarkedReceive.{is_among}
 use Rattle.core_meaning.specs.PassedOnTail.{elements}
-use Rattle.core_meaning.specs.ReceiveCost.{subs}
-use Rattle.core_meaning.specs.Calls.{Here}
-use Rattle.core_meaning.specs.Context.{Context}
+use Rattle.core_meaning.specs.Calls.{Activation}
+use Rattle.core_meaning.specs.EvaluationContext.{EvaluationContext}
 
 -- a guard runs on a state of its own, since it asks the world for nothing
 abbrev pub blank : State
@@ -39,12 +38,7 @@ taken_if false body rest = rest
 
 -- a guard with this result, before a body and further clauses
 abbrev pub guarded : {A : Type 0} → State × Outcome Values → M A → Tried A → Tried A
-guarded r body rest = and_cuts (subs r.0.notes) (taken_if (is_true r.1) body rest)
-
--- patterns that bind these values, before what is done with them and further clauses
-abbrev pub if_bound : {A : Type 0} → Option Values → (Values → Tried A) → Tried A → Tried A
-if_bound None f rest = rest
-if_bound (Some ws) f rest = f ws
+guarded r body rest = and_cuts (sub_binaries r.0.notes) (taken_if (is_true r.1) body rest)
 
 -- A case without a clause.
 
@@ -60,10 +54,10 @@ count_among (and_expr (var p x) es) g ns =
 count_among (and_expr e es) g ns = count_among es g ns
 
 -- a failing case makes the bits of those parameters that came as a rest, since its reason holds them
-abbrev pub case_end : Here → Expr → Context → Values → Option (M Values) → M Values
+abbrev pub case_end : Activation → Expr → EvaluationContext → Values → Option (M Values) → M Values
 case_end here e c vs None = cutting (count_among (elements e) c.scope here.apart) (fail T.error (clause_reason vs))
 case_end here e c vs (Some m) = m
 
 -- what comes of trying the clauses of a case
-abbrev pub case_tried : Here → Expr → Context → Values → Tried Values → M Values
+abbrev pub case_tried : Activation → Expr → EvaluationContext → Values → Tried Values → M Values
 case_tried here e c vs t = cutting t.cuts (case_end here e c vs t.body)

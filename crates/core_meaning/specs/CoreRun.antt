@@ -6,19 +6,19 @@ use Rattle.erl_term.specs.Term as T
 use Rattle.erl_term.specs.Term.{Term}
 use Rattle.erl_term.specs.Terms.{Values, word}
 use Rattle.world_model.specs.World.{Script, Happening}
-use Rattle.world_model.specs.Run.{Entry, Looked, Marked, Note, happenings, entries, looks, marks, State, Outcome, spent, M, give, fail, numbered}
+use Rattle.world_model.specs.Run.{Entry, Looked, Marked, Note, happenings, entries, looks, marks, sub_binaries, State, Outcome, spent, M, give, fail, numbered}
 use Rattle.world_model.specs.Meaning.{one}
 use Rattle.core_form.specs.Core.{Module}
 use Rattle.core_form.specs.Scope.{Use, function_of, numbers_of}
 use Rattle.core_form.specs.Sites.{Site, inside, param_numbers, module_scope, module_sites}
 use Rattle.core_meaning.specs.PassedOnTail.{Param, all_reached}
-use Rattle.core_meaning.specs.ReceiveCost.{examined, subs, serial_of, unbound}
-use Rattle.core_meaning.specs.Calls.{Here}
-use Rattle.core_meaning.specs.Context.{holding}
+use Rattle.core_meaning.specs.ReceiveCost.{examined}
+use Rattle.core_meaning.specs.Calls.{Activation}
+use Rattle.core_meaning.specs.EvaluationContext.{holding}
 use Rattle.core_meaning.specs.Evaluation.{eval}
 
 -- a function's body, with its arguments and captured terms
-unfoldable pub run_site : Here → Option Site → Values → M Term
+unfoldable pub run_site : Activation → Option Site → Values → M Term
 unfolding eval
 run_site here None vs = fail T.error (word (codes "undef"))
 run_site here (Some x) vs = one (eval here x.body (record {
@@ -82,7 +82,7 @@ result_of choices ns end = record {
   looks = looks ns;
   marks = marks ns;
   examined = examined ns (record { bound = []; choices = choices; low = 0 });
-  subs = subs ns;
+  subs = sub_binaries ns;
   end = end;
 }
 
@@ -110,6 +110,6 @@ known_export m f = site_named (function_of (module_scope m.defs 0 []) f)
 
 -- what a call of an export does, with at most n entries
 unfoldable pub evaluated : Module → FunKey → Values → Script → ℕ → Result
-unfolding deep serial_of unbound
+unfolding deep examined
 evaluated m f vs x n =
     ended x.choices (deep (known m x.own) (suc n) (known_export m f) vs (start x n))

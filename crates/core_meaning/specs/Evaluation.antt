@@ -1,27 +1,30 @@
 -- What an expression does (Core Erlang 1.0.3, section 5, from left to right).
-use Rattle.std.specs.Prelude.{ℕ, ◌+◌, List, [], ◌∷◌, ◌++◌, length, Bool, eqb, Option, Some, None, if◌then◌else◌, codes}
+use Rattle.std.specs.Prelude.{ℕ, ◌+◌, List, [], ◌∷◌, ◌++◌, length, Bool, eqb, Option, Some, None, if◌then◌else◌}
 use Rattle.erl_base.specs.declared.ids.FunKey.{FunKey}
 use Rattle.erl_term.specs.Term as T
 use Rattle.erl_term.specs.Term.{Term, no_pair}
 use Rattle.erl_term.specs.TermOrder.{same_term}
-use Rattle.erl_term.specs.Terms.{Values, terms, list_of, class_word, word}
+use Rattle.erl_term.specs.Terms.{Values, terms, list_of, class_word}
 use Rattle.erl_term.specs.Segments.{Shape, built, joined}
 use Rattle.world_model.specs.Run.{M, ◌>>=◌, give, fail}
 use Rattle.world_model.specs.Meaning.{as_values, one, single, either}
 use Rattle.world_model.specs.MapUpdate.{Put, put_all}
-use Rattle.world_model.specs.Requests.{exit_of}
+use Rattle.world_model.specs.Requests.{badarg, exit_of}
+use Rattle.world_model.specs.RemoteCalls.{apply_term, call_terms}
+use Rattle.world_model.specs.Entries.{entering}
 use Rattle.world_model.specs.Receive.{timeout_of, Tried, receiving}
 use Rattle.core_form.specs.Core.{Expr, values, var, fun_name, literal, list, tuple, new_map, map_of, binary, fun, let_in, letrec, case, apply, call, primop, do_then, catch, try, receive, Exprs, no_expr, and_expr, MapParts, no_part, and_part, map_part, Segments, no_segment, and_segment, segment, Clauses, no_clause, and_clause, clause}
 use Rattle.core_form.specs.Scope.{Use, function_of, with_names, names_of, bound_all}
 use Rattle.core_form.specs.Captures.{sites_in, sites_in_all, sites_in_parts, sites_in_defs, sites_in_clauses, in_group, captures_of}
 use Rattle.core_form.specs.Walks.{expr_count, with_let}
 use Rattle.core_meaning.specs.SegmentShape.{shape_of}
+use Rattle.core_meaning.specs.SegmentMatch.{if_there}
 use Rattle.core_meaning.specs.PatternMatch.{match_all}
 use Rattle.core_meaning.specs.MarkedReceive.{is_marking, marked_with}
 use Rattle.core_meaning.specs.SubBinaries.{is_made, all_cuts}
-use Rattle.core_meaning.specs.Calls.{Here, entering, apply_term, call_terms, primitive}
-use Rattle.core_meaning.specs.Context.{Context, inner, past, captured_terms, bind, value_of}
-use Rattle.core_meaning.specs.ClauseChoice.{blank, none_tried, and_cuts, guarded, if_bound, case_tried}
+use Rattle.core_meaning.specs.Calls.{Activation, callees, primitive}
+use Rattle.core_meaning.specs.EvaluationContext.{EvaluationContext, inner, past, captured_terms, bind, value_of}
+use Rattle.core_meaning.specs.ClauseChoice.{blank, none_tried, and_cuts, guarded, case_tried}
 use Rattle.core_meaning.specs.MarkingCalls.{marking, awaited, beginning}
 
 -- a segment's shape, value and size
@@ -37,7 +40,7 @@ build_each (x ∷ xs) = joined (built x.shape x.value x.size) (build_each xs)
 
 -- whatever cannot be built raises badarg
 abbrev pub or_badarg : Option (List Bool) → M Values
-or_badarg None = fail T.error (word (codes "badarg"))
+or_badarg None = fail T.error badarg
 or_badarg (Some bs) = single (T.bits bs)
 
 -- the function that an operator names
@@ -51,22 +54,22 @@ if_named None n f a = a
 if_named (Some k) n f a = if eqb k.arity n then f k else a
 
 -- a function's name as a value shows its site and what it captured
-abbrev pub fun_value : Here → Context → Option (ℕ × List Use) → ℕ → Values
+abbrev pub fun_value : Activation → EvaluationContext → Option (ℕ × List Use) → ℕ → Values
 fun_value here c None n = []
 fun_value here c (Some f) n = T.fun here.name f.0 n (terms (captured_terms c.env f.1)) ∷ []
 
 -- a call by name hands the captured terms on behind the arguments
-abbrev pub apply_name : Here → Context → FunKey → Values → M Values
+abbrev pub apply_name : Activation → EvaluationContext → FunKey → Values → M Values
 apply_name here c f vs = elim (function_of c.scope f) [
   | None ↦ give []
-  | Some g ↦ entering here g.0 c.tail (vs ++ captured_terms c.env g.1)
+  | Some g ↦ entering here.enter g.0 c.tail (vs ++ captured_terms c.env g.1)
 ]
 
-module _ (here : Here) where
+module _ (here : Activation) where
   unfoldable mutual
     unfolding call_terms put_all same_term
 
-    pub eval : Expr → Context → M Values
+    pub eval : Expr → EvaluationContext → M Values
     eval (values p es) c = eval_all es (inner c)
     eval (var p x) c = give (as_values (value_of c x))
     eval (fun_name p f) c = give (fun_value here c (function_of c.scope f) f.arity)
@@ -94,12 +97,12 @@ module _ (here : Here) where
     eval (apply p e es) c =
         if_named (name_of e) (expr_count es)
         (λ f. eval_all es (inner c) >>= λ vs. apply_name here c f vs)
-        (one (eval e (inner c)) λ t. eval_all es (past (sites_in e) (inner c)) >>= λ vs. apply_term here vs t)
+        (one (eval e (inner c)) λ t. eval_all es (past (sites_in e) (inner c)) >>= λ vs. apply_term (callees here) t vs)
     eval (call p m f es) c =
         one (eval m (inner c)) λ t.
         one (eval f (past (sites_in m) (inner c))) λ u.
         eval_all es (past (sites_in m + sites_in f) (inner c)) >>= λ vs.
-        call_terms here t u vs
+        call_terms here.own t u vs
     eval (primop p n es) c = eval_all es (inner c) >>= λ vs. primitive n vs
     eval (do_then p a b) c = eval a (inner c) >>= λ vs. eval b (past (sites_in a) c)
     eval (catch p e) c = either (eval e (inner c)) give exit_of
@@ -112,14 +115,14 @@ module _ (here : Here) where
         beginning (awaited c (marked_with cs c.scope c.lets))
         (receiving (λ x. choose cs (x ∷ []) c) (timeout_of u) (eval b (past (sites_in_clauses cs + sites_in t) c)))
 
-    pub eval_all : Exprs → Context → M Values
+    pub eval_all : Exprs → EvaluationContext → M Values
     eval_all no_expr c = give []
     eval_all (and_expr e es) c =
         one (eval e c) λ t.
         eval_all es (past (sites_in e) c) >>= λ vs.
         give (t ∷ vs)
 
-    pub eval_parts : MapParts → Context → M (List Put)
+    pub eval_parts : MapParts → EvaluationContext → M (List Put)
     eval_parts no_part c = give []
     eval_parts (and_part (map_part k v x) ps) c =
         one (eval k c) λ t.
@@ -127,7 +130,7 @@ module _ (here : Here) where
         eval_parts ps (past (sites_in k + sites_in v) c) >>= λ qs.
         give (record { key = t; value = u; exact = x } ∷ qs)
 
-    pub eval_segments : Segments → Context → M (List Part)
+    pub eval_segments : Segments → EvaluationContext → M (List Part)
     eval_segments no_segment c = give []
     eval_segments (and_segment (segment p v s u k f) ss) c =
         one (eval v c) λ t.
@@ -136,12 +139,12 @@ module _ (here : Here) where
         give (record { shape = shape_of s u k f; value = t; size = n } ∷ xs)
 
     -- the first clause that matches and holds
-    pub choose : Clauses → Values → Context → Tried Values
+    pub choose : Clauses → Values → EvaluationContext → Tried Values
     choose no_clause vs c = none_tried
     choose (and_clause (clause p qs g e) cs) vs c =
         let d = with_names c.scope (bound_all qs) in
         let rest = choose cs vs (past (sites_in g + sites_in e) c) in
         and_cuts (all_cuts (is_made c.tail here.reached g e d (c.next + sites_in g)) (value_of c) qs (terms vs))
-        (if_bound (match_all (value_of c) qs (terms vs))
+        (if_there (match_all (value_of c) qs (terms vs))
         (λ ws. guarded (eval g (inner (bind (bound_all qs) ws c)) blank) (eval e (bind (bound_all qs) ws (past (sites_in g) c))) rest)
         rest)

@@ -1,11 +1,12 @@
 pub mod SegmentShape
+pub mod SegmentMatch
 pub mod PatternMatch
 pub mod MarkedReceive
 pub mod PassedOnTail
 pub mod SubBinaries
 pub mod ReceiveCost
 pub mod Calls
-pub mod Context
+pub mod EvaluationContext
 pub mod ClauseChoice
 pub mod MarkingCalls
 pub mod Evaluation

@@ -4,7 +4,7 @@ use Rattle.erl_term.specs.Term.{Term}
 use Rattle.erl_term.specs.Terms.{Values, only}
 use Rattle.world_model.specs.World.{asked}
 use Rattle.world_model.specs.Run.{Note, happened, marked, began, noting, State, gives, M, ◌>>=◌}
-use Rattle.core_meaning.specs.Context.{Context, held}
+use Rattle.core_meaning.specs.EvaluationContext.{EvaluationContext, held}
 
 -- the last note is that of the marking call; what is no reference is not bound
 abbrev pub last_mark : Term → List Note → State → State
@@ -21,7 +21,7 @@ marking false m = m
 marking true m = m >>= λ vs s. (last_mark (only vs) s.notes s, gives vs)
 
 -- the value of the variable that marks a receive
-abbrev pub awaited : Context → Option ℕ → Option Term
+abbrev pub awaited : EvaluationContext → Option ℕ → Option Term
 awaited c None = None
 awaited c (Some n) = held c.env n
 

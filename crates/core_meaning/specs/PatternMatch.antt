@@ -9,6 +9,7 @@ use Rattle.erl_term.specs.Terms.{Values, value_at}
 use Rattle.erl_term.specs.Segments.{taken_size, segment_value}
 use Rattle.core_form.specs.Core.{Expr, var, literal, Pattern, any, alias, known, list_like, tuple_like, map_like, bits_like, Patterns, no_pattern, and_pattern, KeyPatterns, no_key, and_key, key_pattern, SegPatterns, no_seg, and_seg, seg_pattern}
 use Rattle.core_meaning.specs.SegmentShape.{shape_of}
+use Rattle.core_meaning.specs.SegmentMatch.{if_there, both, also, Segment, match_segs}
 
 -- The relation. Keys and sizes are looked up in env, which is what stands outside of the clause, but for a size that an
 -- earlier segment of its binary names.
@@ -66,26 +67,10 @@ mutual
 
 -- The function: what a pattern that matches binds.
 
--- what is bound by two parts
-abbrev pub both : Option Values → Option Values → Option Values
-both None b = None
-both (Some xs) None = None
-both (Some xs) (Some ys) = Some (xs ++ ys)
-
--- a term more
-abbrev pub also : Term → Option Values → Option Values
-also t None = None
-also t (Some xs) = Some (t ∷ xs)
-
 -- the value of a key, if the map has it
 abbrev pub at_key : Pairs → Option Term → Option Term
 at_key ps None = None
 at_key ps (Some k) = value_at ps k
-
--- what is done with a value, if there is one
-abbrev pub if_some : {A : Type 0} → Option A → (A → Option Values) → Option Values
-if_some None f = None
-if_some (Some t) f = f t
 
 -- a segment's value is a variable or a literal
 abbrev pub match_segment : Pattern → Term → Option Values
@@ -93,13 +78,15 @@ match_segment (any p x) t = Some (t ∷ [])
 match_segment (known p u) t = if same_term u t then Some [] else None
 match_segment _ t = None
 
-abbrev pub match_segs : SegPatterns → (Name → Option Term) → List Bool → Option Values
-match_segs no_seg env [] = Some []
-match_segs no_seg env (b ∷ bs) = None
-match_segs (and_seg (seg_pattern p q size unit kind flags) ss) env bs =
-    let h = shape_of size unit kind flags in
-    if_some (taken_size h (key_value env size) (length bs)) λ n.
-    both (match_segment q (segment_value h (take n bs))) (match_segs ss (known_name q (segment_value h (take n bs)) env) (drop n bs))
+-- the segments of a pattern
+abbrev pub segments_in : SegPatterns → List (Segment (Name → Option Term) Term)
+segments_in no_seg = []
+segments_in (and_seg (seg_pattern p q size unit kind flags) ss) = record {
+  shape = shape_of size unit kind flags;
+  size = λ env. key_value env size;
+  binds = match_segment q;
+  shows = known_name q;
+} ∷ segments_in ss
 
 module _ (env : Name → Option Term) where
   abbrev mutual
@@ -112,7 +99,7 @@ module _ (env : Name → Option Term) where
     matches (tuple_like p qs) _ = None
     matches (map_like p ks) (T.map ps) = match_keys ks ps
     matches (map_like p ks) _ = None
-    matches (bits_like p ss) (T.bits bs) = match_segs ss env bs
+    matches (bits_like p ss) (T.bits bs) = match_segs (segments_in ss) env bs
     matches (bits_like p ss) _ = None
 
     -- items, and what is asked of the rest
@@ -129,4 +116,4 @@ module _ (env : Name → Option Term) where
 
     pub match_keys : KeyPatterns → Pairs → Option Values
     match_keys no_key ps = Some []
-    match_keys (and_key (key_pattern e q) ks) ps = both (if_some (at_key ps (key_value env e)) (λ t. matches q t)) (match_keys ks ps)
+    match_keys (and_key (key_pattern e q) ks) ps = both (if_there (at_key ps (key_value env e)) (λ t. matches q t) None) (match_keys ks ps)

@@ -1,6 +1,6 @@
 ghost use Rattle.core_form.specs.Core.{Clauses, Pattern, Patterns};
-ghost use Rattle.core_meaning.specs.Calls.{Here};
-ghost use Rattle.core_meaning.specs.Context.{Context};
+ghost use Rattle.core_meaning.specs.Calls.{Activation};
+ghost use Rattle.core_meaning.specs.EvaluationContext.{EvaluationContext};
 ghost use Rattle.core_meaning.specs.Evaluation.{choose};
 ghost use Rattle.core_meaning.specs.PatternMatch.{AllMatch, Matches, match_all, matches};
 ghost use Rattle.core_meaning.specs.RunLaws.{DepthIsEnough, EntersFirst, EntersWithin, EntriesAreSpent, HappensFirst, SameWithMore, SpentAtBound};
@@ -23,7 +23,7 @@ pub fn matching_is_the_relation()
 /// The clause that is chosen is the first that accepts.
 #[tactic(auto, using(crate::proofs::Selecting::chosen_exactly))]
 pub fn the_first_clause_that_accepts_is_chosen()
-    ensures { (here : Here) (cs : Clauses) (vs : Values) (c : Context) (body : M Values) → ((choose here cs vs c).body ≡ Some body) ↔ Chosen here cs vs c body }
+    ensures { (here : Activation) (cs : Clauses) (vs : Values) (c : EvaluationContext) (body : M Values) → ((choose here cs vs c).body ≡ Some body) ↔ Chosen here cs vs c body }
 {}
 
 /// A receive takes the first message in the order of the mailbox that a clause accepts; where there is none, it looks for

@@ -5,4 +5,5 @@ pub mod OrderCode
 pub mod OrderLaws
 pub mod BitNumbers
 pub mod MapLaws
+pub mod MapRuns
 pub mod Deep

@@ -7,3 +7,6 @@ pub mod View
 pub mod WellFormed
 pub mod Comparing
 pub mod Depth
+pub mod Ranges
+pub mod WellRows
+pub mod Merging

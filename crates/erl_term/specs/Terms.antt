@@ -23,6 +23,10 @@ abbrev pub listed : Terms → List Term
 listed none = []
 listed (more t ts) = t ∷ listed ts
 
+abbrev pub listed_pairs : Pairs → List (Term × Term)
+listed_pairs no_pair = []
+listed_pairs (pair k v ps) = (k, v) ∷ listed_pairs ps
+
 -- the value of an expression that has one
 abbrev pub only : Values → Term
 only [] = T.nil
@@ -68,3 +72,8 @@ put k v (pair l w ps) = elim (compare k l) [
   | Equal ↦ pair k v ps
   | Greater ↦ pair l w (put k v ps)
 ]
+
+-- pairs put into a map in order: the later of two with equal keys wins
+abbrev pub put_all : List (Term × Term) → Pairs → Pairs
+put_all [] ps = ps
+put_all (q ∷ qs) ps = put_all qs (put q.0 q.1 ps)

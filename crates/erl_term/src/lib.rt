@@ -6,6 +6,7 @@
 
 mod depth;
 mod laws;
+mod maps;
 mod order;
 mod term;
 #[cfg(test)]
@@ -14,5 +15,6 @@ mod tests;
 pub use laws::{
     bits_hold_their_number, maps_keep_what_is_put, order_is_total, order_tells_terms_apart,
 };
+pub use maps::map_of;
 pub use order::compare;
 pub use term::{Attribute, Attributes, Bits, Class, Pair, Pairs, Term, Terms};

@@ -1,10 +1,11 @@
-// Copies of expressions and trees. Each goes along its chain in a loop and keeps what it passes in a list, so that it needs
-// stack only for what is nested in the text. The functions that call each other put nothing together and let nothing go.
+// Copies of expressions and trees. Each goes along its chain in a loop and keeps what it passes in a list, so that it
+// needs stack only for what is nested in the text. The functions that call each other put nothing together and let
+// nothing go.
 ghost use Rattle.std.specs.Prelude.{◌≡◌, IfOk};
 
+use crate::{chains, nodes};
 use erl_base::{Boxed, Duplicate, List, NoMemory};
 use kernel_form::{Case, Cases, KExpr, SegRow, SegRows, Tree};
-use kernel_make::{chains, nodes};
 use std::alloc::Global;
 
 #[cycle(copy)]

@@ -3,7 +3,9 @@
 //! A body that always answers want of memory meets the contracts; the tests run each copy with ample memory.
 #![tactic(auto)]
 
+mod chains;
 mod copies;
+mod nodes;
 #[cfg(test)]
 mod tests;
 mod tree;

@@ -13,9 +13,9 @@ use std::test::Fail;
 const LONG: u32 = 100000;
 
 fn lets(alloc: Global, count: u32) -> Result<KExpr, NoMemory> {
-    let mut expr = give(alloc, var(0))?;
+    let mut expr = give(alloc, var(VarId(0)))?;
     for number in 0..count {
-        let vars = one_var(alloc, number)?;
+        let vars = one_var(alloc, VarId(number))?;
         let value = boxed(alloc, simple(KSimple::Trace))?;
         expr = let_in(vars, value, boxed(alloc, expr)?);
     }
@@ -52,13 +52,13 @@ fn first_of(alloc: Global, tree: Tree) -> Result<Tree, NoMemory> {
 
 fn one_case(alloc: Global, then: Tree) -> Result<Tree, NoMemory> {
     let mut cases = List::new(alloc);
-    let parts = one_var(alloc, 7)?;
+    let parts = one_var(alloc, VarId(7))?;
     cases.push(Case {
         shape: Shape::Tuple(1),
         parts,
         then,
     })?;
-    Ok(switch(0, cases, boxed_tree(alloc, fall(0))?))
+    Ok(switch(VarId(0), cases, boxed_tree(alloc, fall(0))?))
 }
 
 fn let_count(expr: &KExpr) -> u32 {
@@ -94,7 +94,7 @@ fn module_of(alloc: Global, expr: KExpr) -> Result<Kernel, NoMemory> {
     let key = FunKey { name, arity: 1 };
     let mut exports = List::new(alloc);
     exports.push(key.copy(alloc)?)?;
-    let params = one_var(alloc, 0)?;
+    let params = one_var(alloc, VarId(0))?;
     let mut funs = List::new(alloc);
     funs.push(KFun {
         key,
@@ -131,7 +131,7 @@ fn segs(alloc: Global) -> Result<KSegs, NoMemory> {
     let mut segs = List::new(alloc);
     segs.push(KSeg {
         value: KPat::Var(VarId(5)),
-        size: var(6),
+        size: var(VarId(6)),
         unit: 1,
         signed: true,
         little: false,
@@ -144,7 +144,10 @@ fn segs(alloc: Global) -> Result<KSegs, NoMemory> {
 fn keyed(alloc: Global) -> Result<KPats, NoMemory> {
     let mut keys = List::new(alloc);
     let pat = KPat::Bits(segs(alloc)?);
-    keys.push(KKeyPat { key: var(1), pat })?;
+    keys.push(KKeyPat {
+        key: var(VarId(1)),
+        pat,
+    })?;
     let mut pats = List::new(alloc);
     pats.push(KPat::Map(keys))?;
     Ok(pats)
@@ -152,8 +155,8 @@ fn keyed(alloc: Global) -> Result<KPats, NoMemory> {
 
 fn row_of(alloc: Global) -> Result<Row, NoMemory> {
     let pats = keyed(alloc)?;
-    let guard = give(alloc, var(1))?;
-    let body = KExpr::Values(two_values(alloc, var(1), var(2))?);
+    let guard = give(alloc, var(VarId(1)))?;
+    let body = KExpr::Values(two_values(alloc, var(VarId(1)), var(VarId(2)))?);
     Ok(Row { pats, guard, body })
 }
 
@@ -189,7 +192,7 @@ fn clauses_are_copied(rt: HostRuntime) -> Result<(), Fail> {
 #[test]
 fn cases_are_copied(rt: HostRuntime) -> Result<(), Fail> {
     let alloc = rt.alloc();
-    let parts = one_var(alloc, 7)?;
+    let parts = one_var(alloc, VarId(7))?;
     let case = Case {
         shape: Shape::Tuple(1),
         parts,
@@ -215,20 +218,26 @@ fn rows_are_copied(rt: HostRuntime) -> Result<(), Fail> {
 // One expression of each form but lets and matches, one in the other.
 fn tried(alloc: Global) -> Result<KExpr, NoMemory> {
     let tried = boxed(alloc, catch_of(boxed(alloc, simple(KSimple::Trace))?))?;
-    let body = boxed(alloc, give(alloc, var(1))?)?;
+    let body = boxed(alloc, give(alloc, var(VarId(1)))?)?;
     let handler = boxed(alloc, waiting(alloc)?)?;
-    Ok(try_of(tried, one_var(alloc, 1)?, body, one_var(alloc, 2)?, handler))
+    Ok(try_of(
+        tried,
+        one_var(alloc, VarId(1))?,
+        body,
+        one_var(alloc, VarId(2))?,
+        handler,
+    ))
 }
 
 fn waiting(alloc: Global) -> Result<KExpr, NoMemory> {
-    let after = boxed(alloc, give(alloc, var(3))?)?;
-    Ok(receive(6, 3, guarding(alloc)?, var(4), after))
+    let after = boxed(alloc, give(alloc, var(VarId(3)))?)?;
+    Ok(receive(6, VarId(3), guarding(alloc)?, var(VarId(4)), after))
 }
 
 // A tree of each form that the chains above lack.
 fn guarding(alloc: Global) -> Result<Tree, NoMemory> {
-    let guard = boxed(alloc, give(alloc, var(3))?)?;
-    let then = boxed_tree(alloc, body(boxed(alloc, give(alloc, var(5))?)?))?;
+    let guard = boxed(alloc, give(alloc, var(VarId(3)))?)?;
+    let then = boxed_tree(alloc, body(boxed(alloc, give(alloc, var(VarId(5)))?)?))?;
     Ok(guarded(guard, then, boxed_tree(alloc, one_row(alloc)?)?))
 }
 
@@ -239,7 +248,7 @@ fn one_row(alloc: Global) -> Result<Tree, NoMemory> {
         segs,
         then: fall(4),
     })?;
-    Ok(segments(3, rows, boxed_tree(alloc, fall(0))?))
+    Ok(segments(VarId(3), rows, boxed_tree(alloc, fall(0))?))
 }
 
 #[test]

@@ -1,3 +1,4 @@
 pub mod Kernel
 pub mod View
 pub mod Apart
+pub mod Chains

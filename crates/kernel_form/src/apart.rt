@@ -1,5 +1,5 @@
-// Expressions and trees taken apart by one level, for passes that build on with the parts: a pattern cannot move the parts
-// out of a value that has a drop of its own, but where its type is declared.
+// Expressions and trees taken apart by one level, for passes that build on with the parts: a pattern cannot move the
+// parts out of a value that has a drop of its own, but where its type is declared.
 use crate::tree::{Cases, KExpr, SegRows, Tree};
 use erl_base::{Boxed, VarId};
 use kernel_parts::{BinStep, KSimple, KValue, KValues, Vars};

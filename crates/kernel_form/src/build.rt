@@ -1,4 +1,4 @@
-//! Small calls that make expressions and trees, for passes and tests.
+//! The builder of kernel form, for passes and tests: expressions and trees from their parts, and chains of them.
 ghost use Rattle.std.specs.Prelude.{◌≡◌, [], ◌∷◌, IfOk, map};
 ghost use Rattle.kernel_form.specs.Kernel as Plain;
 ghost use Rattle.kernel_form.specs.View.{numbers, value_view, simple_view, step_view, case_view, seg_row_view, cases, rows, view, tree_view};
@@ -8,10 +8,12 @@ use erl_base::{Boxed, List, NoMemory, VarId};
 use kernel_parts::{BinStep, KSimple, KValue, KValues, Vars};
 use std::alloc::Global;
 
-pub fn var(number: u32) -> KValue
-    ensures { value_view result ≡ Plain.var number }
+pub mod chains;
+
+pub fn var(var: VarId) -> KValue
+    ensures { value_view result ≡ Plain.var var.0 }
 {
-    KValue::Var(VarId(number))
+    KValue::Var(var)
 }
 
 pub fn one_value(alloc: Global, value: KValue) -> Result<KValues, NoMemory>
@@ -31,11 +33,11 @@ pub fn two_values(alloc: Global, first: KValue, second: KValue) -> Result<KValue
     Ok(values)
 }
 
-pub fn one_var(alloc: Global, var: u32) -> Result<Vars, NoMemory>
-    ensures { IfOk result (λ vars. numbers vars ≡ var ∷ []) }
+pub fn one_var(alloc: Global, var: VarId) -> Result<Vars, NoMemory>
+    ensures { IfOk result (λ vars. numbers vars ≡ var.0 ∷ []) }
 {
     let mut vars = List::new(alloc);
-    vars.push(VarId(var))?;
+    vars.push(var)?;
     Ok(vars)
 }
 
@@ -97,14 +99,14 @@ pub fn catch_of(tried: Boxed<KExpr>) -> KExpr
 
 pub fn receive(
     number: u32,
-    message: u32,
+    message: VarId,
     clauses: Tree,
     timeout: KValue,
     after: Boxed<KExpr>,
 ) -> KExpr
-    ensures { view result ≡ Plain.receive number message (tree_view clauses) (value_view timeout) (view after) }
+    ensures { view result ≡ Plain.receive number message.0 (tree_view clauses) (value_view timeout) (view after) }
 {
-    KExpr::Receive(number, VarId(message), clauses, timeout, after)
+    KExpr::Receive(number, message, clauses, timeout, after)
 }
 
 pub fn body(expr: Boxed<KExpr>) -> Tree
@@ -125,16 +127,16 @@ pub fn either(number: u32, first: Boxed<Tree>, second: Boxed<Tree>) -> Tree
     Tree::Either(number, first, second)
 }
 
-pub fn switch(var: u32, list: Cases, last: Boxed<Tree>) -> Tree
-    ensures { tree_view result ≡ Plain.switch var (cases (map case_view list)) (tree_view last) }
+pub fn switch(var: VarId, list: Cases, last: Boxed<Tree>) -> Tree
+    ensures { tree_view result ≡ Plain.switch var.0 (cases (map case_view list)) (tree_view last) }
 {
-    Tree::Switch(VarId(var), list, last)
+    Tree::Switch(var, list, last)
 }
 
-pub fn segments(var: u32, list: SegRows, last: Boxed<Tree>) -> Tree
-    ensures { tree_view result ≡ Plain.segments var (rows (map seg_row_view list)) (tree_view last) }
+pub fn segments(var: VarId, list: SegRows, last: Boxed<Tree>) -> Tree
+    ensures { tree_view result ≡ Plain.segments var.0 (rows (map seg_row_view list)) (tree_view last) }
 {
-    Tree::Segments(VarId(var), list, last)
+    Tree::Segments(var, list, last)
 }
 
 pub fn step(step: BinStep, then: Boxed<Tree>, last: Boxed<Tree>) -> Tree

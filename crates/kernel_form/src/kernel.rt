@@ -4,8 +4,8 @@ use erl_base::{FunKey, List, Name, SiteId};
 use erl_term::Attributes;
 use kernel_parts::Vars;
 
-/// A function of a module, with the terms that it captured as its last parameters. `next` is above every variable of the
-/// module.
+/// A function of a module, with the terms that it captured as its last parameters. `next` is above every variable of
+/// the module.
 #[derive(Drop)]
 pub struct KFun {
     pub key: FunKey,

@@ -1,5 +1,5 @@
-// Expressions and decision trees. Let chains, the second trees of `Either`, the first ones of `Step` and the trees of last
-// cases and rows are as long as a body, so what walks them goes along in a loop.
+// Expressions and decision trees. Let chains, the second trees of `Either`, the first ones of `Step` and the trees of
+// last cases and rows are as long as a body, so what walks them goes along in a loop.
 ghost use Rattle.std.specs.Prelude.{◌≡◌};
 ghost use Rattle.kernel_form.specs.Apart.{expr_of, tree_of};
 ghost use Rattle.kernel_form.specs.declared.tree.Case.{out-Case};
@@ -10,8 +10,8 @@ use erl_base::{Boxed, List, VarId, let_go};
 use kernel_parts::{BinStep, KPats, KSegs, KSimple, KValue, KValues, Shape, Vars};
 
 /// `Let` has the variables, what gives their values, and the body. `Try` has the tried part, the variables and body for
-/// its values, and the variables and body for what it raises. `Receive` has its number, the variable of the message, its
-/// clauses, the timeout and the body after it.
+/// its values, and the variables and body for what it raises. `Receive` has its number, the variable of the message,
+/// its clauses, the timeout and the body after it.
 #[cycle(tree)]
 pub enum KExpr {
     Values(KValues),

@@ -5,11 +5,11 @@ use Rattle.erl_term.specs.Term.{Term, Class}
 use Rattle.erl_term.specs.Terms.{word}
 use Rattle.world_model.specs.World as W
 use Rattle.world_model.specs.World.{Delay, forever, millis, Request, Reply, Message, asked, taken}
-use Rattle.world_model.specs.Run.{Note, happened, entered, looked, marked, began, cut, State, Outcome, gives, raises, waits, spent, M, ◌>>=◌, after, give, fail, ask, ask_from, answered, numbered, noting}
+use Rattle.world_model.specs.Run.{Note, happened, entered, looked, marked, began, cut, sub_binaries, State, Outcome, gives, raises, waits, spent, M, ◌>>=◌, after, give, fail, ask, ask_from, answered, numbered, noting}
 use Rattle.world_model.specs.Meaning.{either, ends}
 use Rattle.world_model.specs.Receive.{Timeout, now, in', wrong, Tried, cutting, taking, try_each, looking, waiting, new_or, receiving, without}
-use Rattle.step_machine.specs.Bodies.{entry_left}
-use Rattle.pass_contract.specs.SameRun.{done, sub_binaries, SameState, SameResult, Agree}
+use Rattle.world_model.specs.Entries.{entry_left, counted}
+use Rattle.pass_contract.specs.SameRun.{done, SameState, SameResult, Agree}
 use Rattle.kernel_meaning.specs.Agreement.{OptionAgrees, TriedAgrees}
 
 -- States.
@@ -98,7 +98,7 @@ ask_agrees q s t e = subst (λ x. SameResult (ask_from q s.replies s) (ask_from 
     go [] = record { state = e; end = refl }
     go (r ∷ rs) = record { state = answered_same q r rs s t e; end = refl }
 
-pub left_agrees : {A : Type 0} (e : _) (m k : M A) → Agree m k → Agree (λ s. entry_left s.left e m s) (λ s. entry_left s.left e k s)
+pub left_agrees : {A : Type 0} (e : _) (m k : M A) → Agree m k → Agree (counted e m) (counted e k)
 left_agrees x m k h s t e = subst (λ n. SameResult (entry_left s.left x m s) (entry_left n x k t)) (sym e.left) (go s.left)
   where
     go : (n : ℕ) → SameResult (entry_left n x m s) (entry_left n x k t)

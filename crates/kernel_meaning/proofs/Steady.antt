@@ -1,5 +1,5 @@
 -- A function in kernel form agrees with itself: so functions with the same meaning agree.
-use Rattle.std.proofs.Common.{◌≡◌, ◌≤◌, ◌+◌, ℕ, List, [], ◌∷◌, length, Bool, true, false, Option, Some, None, if◌then◌else◌, eqb, refl, sym, ap, subst, codes, arith}
+use Rattle.std.proofs.Common.{◌≡◌, ◌≤◌, ◌+◌, ℕ, List, [], ◌∷◌, length, Bool, true, false, Option, Some, None, if◌then◌else◌, eqb, refl, sym, subst, codes, arith}
 use Rattle.erl_base.specs.Names.{Name}
 use Rattle.erl_term.specs.Term as T
 use Rattle.erl_term.specs.Term.{Term, Terms, Pairs, Class}
@@ -8,23 +8,24 @@ use Rattle.bif_table.specs.BuiltinAnswer.{Answer, value, raised, answer, lookup}
 use Rattle.bif_table.specs.Builtins.{Bif}
 use Rattle.world_model.specs.World as W
 use Rattle.world_model.specs.World.{Reply}
-use Rattle.world_model.specs.Run.{Note, happened, entered, looked, marked, began, cut, State, Outcome, M, ◌>>=◌, ask}
+use Rattle.world_model.specs.Run.{Note, happened, entered, looked, marked, began, cut, sub_binaries, State, Outcome, M, ◌>>=◌, ask}
 use Rattle.world_model.specs.Meaning.{single}
 use Rattle.world_model.specs.MapUpdate.{Put, put_each, put_all}
 use Rattle.world_model.specs.Requests.{send_to, call_out, send_or_call, is_send, answers, exit_of}
 use Rattle.world_model.specs.Receive.{timeout_of, Tried}
-use Rattle.step_machine.specs.Bodies.{Here, Body}
-use Rattle.core_meaning.specs.Calls.{raise_again}
-use Rattle.core_meaning.specs.ReceiveCost.{subs}
+use Rattle.world_model.specs.RemoteCalls.{call_erlang, call_terms, apply_term, raise_again}
+use Rattle.world_model.specs.Entries.{entering}
+use Rattle.step_machine.specs.Bodies.{Body, here_of, callees}
+use Rattle.core_meaning.specs.SegmentMatch.{if_there, match_segs}
 use Rattle.core_meaning.specs.ClauseChoice.{blank, is_true, none_tried, and_cuts}
 use Rattle.core_meaning.specs.MarkingCalls.{marking, last_mark}
 use Rattle.core_meaning.specs.Evaluation.{or_badarg, build_each}
 use Rattle.kernel_form.specs.Kernel.{Simple, value, cons, tuple, map_put, bits, make_fun, bif, local, apply, remote, send, trace, raise, failing, Expr, values, simple, let_in, match_in, try, catch, receive, Tree, body, fall, either_in, switch, segments, step, guarded, case, Cases, no_case, and_case, seg_row, SegRows, no_row, and_row, Fun}
 use Rattle.kernel_meaning.specs.Environment.{Env, no_values, with_value, with_values, Rests, no_rests, read, read_all, read_pairs, read_parts, Setting}
-use Rattle.kernel_meaning.specs.PatternMatch.{with_bindings, match_segs}
-use Rattle.kernel_meaning.specs.Steps.{entering, apply_term, call_erlang, call_terms, simply, parts_of, bin_step}
-use Rattle.kernel_meaning.specs.KernelRun.{Falls, no_falls, with_fall, taken, select, if_holds, if_parts, or_stuck, matched, is_marked, meaning, tree, cases, rows, fun_does}
-use Rattle.pass_contract.specs.SameRun.{sub_binaries, SameState, SameResult, Agree, EntersAgree}
+use Rattle.kernel_meaning.specs.PatternMatch.{with_bindings, segments_of}
+use Rattle.kernel_meaning.specs.Steps.{simply, parts_of, bin_step}
+use Rattle.kernel_meaning.specs.KernelRun.{Falls, no_falls, with_fall, taken, select, if_holds, or_stuck, matched, is_marked, meaning, tree, cases, rows, fun_does}
+use Rattle.pass_contract.specs.SameRun.{SameState, SameResult, Agree, EntersAgree}
 use Rattle.kernel_meaning.specs.Agreement.{OptionAgrees, TriedAgrees}
 use Rattle.kernel_meaning.proofs.Agreeing.{give_agrees, fail_agrees, noting_agrees, cutting_agrees, bind_agrees, either_agrees, ask_agrees, left_agrees, receiving_agrees, same_state}
 
@@ -90,18 +91,6 @@ put_all_agrees qs _ = fail_agrees _ _
 both_most : (i j k l : ℕ) → j ≤ i → l ≤ k → j + l ≤ i + k
 both_most i j k l p q = omega arith
 
-subs_are : (ns : List Note) → subs ns ≡ sub_binaries ns
-subs_are [] = refl
-subs_are (happened h ∷ ns) = subs_are ns
-subs_are (entered e ∷ ns) = subs_are ns
-subs_are (looked l ∷ ns) = subs_are ns
-subs_are (marked x ∷ ns) = subs_are ns
-subs_are (began o ∷ ns) = subs_are ns
-subs_are (cut n ∷ ns) = ap (λ k. n + k) (subs_are ns)
-
-no_more_subs : (ns ms : List Note) → sub_binaries ms ≤ sub_binaries ns → subs ms ≤ subs ns
-no_more_subs ns ms h = subst (λ k. k ≤ subs ns) (sym (subs_are ms)) (subst (λ k. sub_binaries ms ≤ k) (sym (subs_are ns)) h)
-
 none_agrees : TriedAgrees {A = Values} none_tried none_tried
 unfolding OptionAgrees
 none_agrees = record { cuts = omega arith; body = tt }
@@ -119,11 +108,11 @@ select_agrees false a b c d h i = i
 
 holds_agrees : (r q : State × Outcome Values) (a b c d : Tried Values) → SameResult r q → TriedAgrees a c → TriedAgrees b d → TriedAgrees (if_holds r a b) (if_holds q c d)
 holds_agrees r q a b c d e h i =
-    and_cuts_agrees (subs r.0.notes) (subs q.0.notes) (select (is_true r.1) a b) (select (is_true q.1) c d)
-    (no_more_subs r.0.notes q.0.notes e.state.sub_binaries)
+    and_cuts_agrees (sub_binaries r.0.notes) (sub_binaries q.0.notes) (select (is_true r.1) a b) (select (is_true q.1) c d)
+    e.state.sub_binaries
     (subst (λ o. TriedAgrees (select (is_true r.1) a b) (select (is_true o) c d)) (sym e.end) (select_agrees (is_true r.1) a b c d h i))
 
-parts_agree : (o : Option Values) (f g : Values → Tried Values) (a b : Tried Values) → ((vs : Values) → TriedAgrees (f vs) (g vs)) → TriedAgrees a b → TriedAgrees (if_parts o f a) (if_parts o g b)
+parts_agree : (o : Option Values) (f g : Values → Tried Values) (a b : Tried Values) → ((vs : Values) → TriedAgrees (f vs) (g vs)) → TriedAgrees a b → TriedAgrees (if_there o f a) (if_there o g b)
 parts_agree None f g a b h i = i
 parts_agree (Some vs) f g a b h i = h vs
 
@@ -187,20 +176,17 @@ marking_agrees true m k h = bind_agrees _ _ _ _ h (λ vs s t e. record {
 
 -- The calls of a function, where what it enters agrees.
 
-abbrev pub here_of : Name → Term → (ℕ → Values → M Term) → Here
-here_of name own f = record { name = name; own = own; enter = f }
-
 module _ (name : Name) (own : Term) (f g : ℕ → Values → M Term) (enters : EntersAgree f g) where
-  entering_agrees : (n : ℕ) (tail : Bool) (vs : Values) → Agree (entering (here_of name own f) n tail vs) (entering (here_of name own g) n tail vs)
+  entering_agrees : (n : ℕ) (tail : Bool) (vs : Values) → Agree (entering f n tail vs) (entering g n tail vs)
   entering_agrees n tail vs = bind_agrees _ _ _ _ (left_agrees _ _ _ (enters n vs)) single_agrees
 
-  apply_agrees : (ws : List ℕ) (vs : Values) (t : Term) → Agree (apply_term ws (here_of name own f) vs t) (apply_term ws (here_of name own g) vs t)
-  apply_agrees ws vs (T.fun m s a cs) =
+  apply_agrees : (ws : List ℕ) (t : Term) (vs : Values) → Agree (apply_term (callees ws (here_of name own f)) t vs) (apply_term (callees ws (here_of name own g)) t vs)
+  apply_agrees ws (T.fun m s a cs) vs =
       if_agrees _ _ _ _ _ (fail_agrees _ _) (if_agrees _ _ _ _ _ (entering_agrees s false _) (call_out_agrees _ _ _))
-  apply_agrees ws vs (T.extern m h a) = if_agrees _ _ _ _ _ (fail_agrees _ _) (call_out_agrees m h vs)
-  apply_agrees ws vs _ = fail_agrees _ _
+  apply_agrees ws (T.extern m h a) vs = if_agrees _ _ _ _ _ (fail_agrees _ _) (call_out_agrees m h vs)
+  apply_agrees ws _ vs = fail_agrees _ _
 
-  call_erlang_agrees : (h : Name) (vs : Values) → Agree (call_erlang (here_of name own f) h vs) (call_erlang (here_of name own g) h vs)
+  call_erlang_agrees : (h : Name) (vs : Values) → Agree (call_erlang own h vs) (call_erlang own h vs)
   unfolding call_erlang
   call_erlang_agrees h vs = go (lookup h (length vs))
     where
@@ -208,7 +194,7 @@ module _ (name : Name) (own : Term) (f g : ℕ → Values → M Term) (enters : 
       go None = if_agrees _ _ _ _ _ (send_or_call_agrees h vs) (call_out_agrees _ h vs)
       go (Some b) = answers_agree _
 
-  call_terms_agrees : (t u : Term) (vs : Values) → Agree (call_terms (here_of name own f) t u vs) (call_terms (here_of name own g) t u vs)
+  call_terms_agrees : (t u : Term) (vs : Values) → Agree (call_terms own t u vs) (call_terms own t u vs)
   unfolding call_terms
   call_terms_agrees (T.atom m) (T.atom h) vs = if_agrees _ _ _ _ _ (call_erlang_agrees h vs) (call_out_agrees m h vs)
   call_terms_agrees _ _ vs = fail_agrees _ _
@@ -224,7 +210,7 @@ module _ (name : Name) (own : Term) (f g : ℕ → Values → M Term) (enters : 
     simply_agrees (make_fun n vs) env tail = single_agrees _
     simply_agrees (bif b vs) env tail = answers_agree (answer b own (read_all env vs))
     simply_agrees (local n vs) env tail = entering_agrees n tail (read_all env vs)
-    simply_agrees (apply v vs) env tail = apply_agrees w.widths (read_all env vs) (read env v)
+    simply_agrees (apply v vs) env tail = apply_agrees w.widths (read env v) (read_all env vs)
     simply_agrees (remote m h vs) env tail = call_terms_agrees (read env m) (read env h) (read_all env vs)
     simply_agrees (send t v) env tail = send_to_agrees _ _
     simply_agrees trace env tail = trace_agrees
@@ -271,7 +257,7 @@ module _ (name : Name) (own : Term) (f g : ℕ → Values → M Term) (enters : 
       rows_agree no_row u env r tail fs gs h a b i = i
       rows_agree (and_row (seg_row ss t) rs) (T.bits bs) env r tail fs gs h a b i =
           and_cuts_agrees _ _ _ _ (omega arith)
-          (bound_agrees (match_segs ss env bs) _ _ _ _ (λ xs. tree_agrees t (with_bindings env xs) r tail fs gs h) (rows_agree rs (T.bits bs) env r tail fs gs h a b i))
+          (bound_agrees (match_segs (segments_of ss) env bs) _ _ _ _ (λ xs. tree_agrees t (with_bindings env xs) r tail fs gs h) (rows_agree rs (T.bits bs) env r tail fs gs h a b i))
       rows_agree (and_row (seg_row ss t) rs) _ env r tail fs gs h a b i = i
 
 -- two bodies that do the same where the functions that they enter agree

@@ -61,10 +61,6 @@ pub record Setting : Type 0 where
   pub marks : List Mark
   pub handed : List ℕ
 
--- whether a function has this many parameters
-abbrev pub takes : List ℕ → ℕ → ℕ → Bool
-takes ws site n = elim (slice_get ws site) [ None ↦ false | Some k ↦ eqb k n ]
-
 abbrev pub width : List ℕ → ℕ → ℕ
 width ws site = elim (slice_get ws site) [ None ↦ 0 | Some k ↦ k ]
 

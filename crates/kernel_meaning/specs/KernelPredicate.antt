@@ -6,8 +6,9 @@ use Rattle.erl_term.specs.Term.{Term}
 use Rattle.erl_term.specs.TermOrder.{same_term}
 use Rattle.erl_term.specs.Terms.{listed}
 use Rattle.bif_table.specs.Builtins.{arity_of}
+use Rattle.world_model.specs.RemoteCalls.{takes}
 use Rattle.kernel_form.specs.Kernel.{Value, var, lit, MapPair, Part, Simple, value, cons, tuple, map_put, bits, make_fun, bif, local, apply, remote, send, trace, raise, failing, any, bind, known, Seg, seg, Segs, no_seg, and_seg, Shape, is, is_cons, is_tuple, map_has, BinStep, start, integer, take_bits, done, mark, back, Expr, values, simple, let_in, match_in, try, catch, receive, Tree, body, fall, either_in, switch, segments, step, guarded, case, Cases, no_case, and_case, seg_row, SegRows, no_row, and_row, Fun}
-use Rattle.kernel_meaning.specs.Environment.{takes, width, among}
+use Rattle.kernel_meaning.specs.Environment.{width, among}
 use Rattle.kernel_meaning.specs.KernelRun.{widths}
 use Rattle.kernel_meaning.specs.Windows.{window_fits}
 use Rattle.kernel_meaning.specs.Walks.{gathered, nothing, binders, bound_by_seg, bound_by_segs, receives}
@@ -101,21 +102,21 @@ abbrev pub is_bits : Seg → Bool
 is_bits (seg q v h) = h.is_binary
 
 -- what a step leaves beside terms: a context, or a position of a context
-pub data Place : Type 0 where
-  context : ℕ → Place
-  position : ℕ → ℕ → Place
+pub data Point : Type 0 where
+  context : ℕ → Point
+  position : ℕ → ℕ → Point
 
-abbrev pub has_context : ℕ → List Place → Bool
+abbrev pub has_context : ℕ → List Point → Bool
 has_context c [] = false
 has_context c (context d ∷ cs) = eqb c d || has_context c cs
 has_context c (position p d ∷ cs) = has_context c cs
 
-abbrev pub has_position : ℕ → ℕ → List Place → Bool
+abbrev pub has_position : ℕ → ℕ → List Point → Bool
 has_position p c [] = false
 has_position p c (context d ∷ cs) = has_position p c cs
 has_position p c (position q d ∷ cs) = eqb p q && eqb c d || has_position p c cs
 
-abbrev pub step_scoped : List ℕ → List Place → BinStep → Bool
+abbrev pub step_scoped : List ℕ → List Point → BinStep → Bool
 step_scoped xs cs (start x c) = among x xs
 step_scoped xs cs (integer c s) = has_context c cs && not (is_bits s) && seg_scoped xs s
 step_scoped xs cs (take_bits c s) = has_context c cs && is_bits s && seg_scoped xs s
@@ -129,7 +130,7 @@ step_terms (integer c s) = bound_by_seg s
 step_terms (take_bits c s) = bound_by_seg s
 step_terms _ = []
 
-abbrev pub step_places : BinStep → List Place
+abbrev pub step_places : BinStep → List Point
 step_places (start x c) = context c ∷ []
 step_places (mark c p) = position p c ∷ []
 step_places _ = []
@@ -145,7 +146,7 @@ abbrev mutual
   scoped (receive n x t v b) xs = sees xs v && tree_scoped t (x ∷ xs) [] false [] && scoped b xs
 
   -- strict: a fall has an `either_in`
-  pub tree_scoped : Tree → List ℕ → List Place → Bool → List ℕ → Bool
+  pub tree_scoped : Tree → List ℕ → List Point → Bool → List ℕ → Bool
   tree_scoped (body e) xs cs strict ks = scoped e xs
   tree_scoped (fall k) xs cs strict ks = not strict || among k ks
   tree_scoped (either_in k a b) xs cs strict ks = tree_scoped a xs cs strict (k ∷ ks) && tree_scoped b xs cs strict ks
@@ -155,12 +156,12 @@ abbrev mutual
       step_scoped xs cs z && tree_scoped a (step_terms z ++ xs) (step_places z ++ cs) strict ks && tree_scoped b xs cs strict ks
   tree_scoped (guarded g a b) xs cs strict ks = scoped g xs && tree_scoped a xs cs strict ks && tree_scoped b xs cs strict ks
 
-  pub cases_scoped : Cases → List ℕ → List Place → Bool → List ℕ → Bool
+  pub cases_scoped : Cases → List ℕ → List Point → Bool → List ℕ → Bool
   cases_scoped no_case xs cs strict ks = true
   cases_scoped (and_case (case h ys t) hs) xs cs strict ks =
       shape_scoped xs h && tree_scoped t (ys ++ xs) cs strict ks && cases_scoped hs xs cs strict ks
 
-  pub rows_scoped : SegRows → List ℕ → List Place → Bool → List ℕ → Bool
+  pub rows_scoped : SegRows → List ℕ → List Point → Bool → List ℕ → Bool
   rows_scoped no_row xs cs strict ks = true
   rows_scoped (and_row (seg_row ss t) rs) xs cs strict ks =
       segs_scoped xs ss && tree_scoped t (bound_by_segs ss ++ xs) cs strict ks && rows_scoped rs xs cs strict ks
@@ -169,8 +170,8 @@ abbrev mutual
 
 abbrev pub simple_fits : List ℕ → Simple → Bool
 simple_fits ws (bif b vs) = eqb (length vs) (arity_of b)
-simple_fits ws (local n vs) = takes ws n (length vs)
-simple_fits ws (make_fun n vs) = takes ws n (width ws n) && leb (length vs) (width ws n)
+simple_fits ws (local n vs) = takes (slice_get ws n) (length vs)
+simple_fits ws (make_fun n vs) = takes (slice_get ws n) (width ws n) && leb (length vs) (width ws n)
 simple_fits ws _ = true
 
 abbrev pub calls_fit : List ℕ → Expr → Bool

@@ -7,18 +7,19 @@ use Rattle.erl_term.specs.Term.{Term}
 use Rattle.erl_term.specs.TermOrder.{same_term}
 use Rattle.erl_term.specs.Terms.{Values, terms, class_word, word}
 use Rattle.world_model.specs.World.{Script}
-use Rattle.world_model.specs.Run.{State, Outcome, M, ◌>>=◌, give, fail}
+use Rattle.world_model.specs.Run.{State, sub_binaries, Outcome, M, ◌>>=◌, give, fail}
 use Rattle.world_model.specs.Meaning.{one, either}
 use Rattle.world_model.specs.Requests.{exit_of}
 use Rattle.world_model.specs.Receive.{timeout_of, Tried, cutting, receiving}
 use Rattle.step_machine.specs.Bodies.{Here, Body, Bodies, entered_deep}
-use Rattle.core_meaning.specs.ReceiveCost.{subs, serial_of, unbound}
+use Rattle.core_meaning.specs.SegmentMatch.{if_there, match_segs, seg_cuts}
+use Rattle.core_meaning.specs.ReceiveCost.{examined}
 use Rattle.core_meaning.specs.ClauseChoice.{blank, is_true, none_tried, and_cuts, clause_reason}
 use Rattle.core_meaning.specs.MarkingCalls.{marking, beginning}
 use Rattle.core_meaning.specs.CoreRun.{Result, ended, start}
 use Rattle.kernel_form.specs.Kernel.{remote, Segs, Expr, values, simple, let_in, match_in, try, catch, receive, Tree, body, fall, either_in, switch, segments, step, guarded, case, Cases, no_case, and_case, seg_row, SegRows, and_row, Row, Fun, Kernel}
 use Rattle.kernel_meaning.specs.Environment.{Env, no_values, with_value, with_values, Rests, no_rests, read, read_all, Setting, reference_of, is_reference}
-use Rattle.kernel_meaning.specs.PatternMatch.{with_bindings, match_segs, seg_cuts, match_all, all_cuts}
+use Rattle.kernel_meaning.specs.PatternMatch.{with_bindings, segments_of, each_made, match_all, all_cuts}
 use Rattle.kernel_meaning.specs.Steps.{simply, parts_of, Stepped, bin_step}
 
 -- where a fall goes, with the contexts as they are then; nothing is tried where no `either_in` has its number
@@ -40,16 +41,13 @@ select false a b = b
 
 -- a guard with this result, before two trees: it holds where it gives the atom true
 abbrev pub if_holds : State × Outcome Values → Tried Values → Tried Values → Tried Values
-if_holds r a b = and_cuts (subs r.0.notes) (select (is_true r.1) a b)
-
-abbrev pub if_parts : Option Values → (Values → Tried Values) → Tried Values → Tried Values
-if_parts None f rest = rest
-if_parts (Some vs) f rest = f vs
+if_holds r a b = and_cuts (sub_binaries r.0.notes) (select (is_true r.1) a b)
 
 -- segments that match these bits, before further rows
 abbrev pub if_match : List ℕ → Segs → Env → List Bool → (Env → Tried Values) → Tried Values → Tried Values
 if_match hs ss env bs f rest =
-    and_cuts (seg_cuts hs ss env bs) (elim (match_segs ss env bs) [ None ↦ rest | Some xs ↦ f (with_bindings env xs) ])
+    and_cuts (seg_cuts (each_made hs ss) (segments_of ss) env bs)
+    (elim (match_segs (segments_of ss) env bs) [ None ↦ rest | Some xs ↦ f (with_bindings env xs) ])
 
 abbrev pub after_step : Stepped → (Env → Rests → Tried Values) → (Rests → Tried Values) → Tried Values
 after_step z f g = and_cuts z.cuts (elim z.bound [ None ↦ g z.rests | Some env ↦ f env z.rests ])
@@ -107,7 +105,7 @@ module _ (w : Setting) (here : Here) where
     pub cases : Cases → Term → Env → Rests → Bool → Falls → Tried Values → Tried Values
     cases no_case u env r tail fs rest = rest
     cases (and_case (case h xs t) cs) u env r tail fs rest =
-        if_parts (parts_of h env u) (λ vs. tree t (with_values env xs vs) r tail fs) (cases cs u env r tail fs rest)
+        if_there (parts_of h env u) (λ vs. tree t (with_values env xs vs) r tail fs) (cases cs u env r tail fs rest)
 
     -- the first row whose segments match
     pub rows : SegRows → Term → Env → Rests → Bool → Falls → Tried Values → Tried Values
@@ -151,6 +149,6 @@ site_of (f ∷ fs) k = if same_key f.key k then f.site else site_of fs k
 
 -- what a call of an export does, with at most n entries
 unfoldable pub kernel_run : Setting → Kernel → FunKey → Values → Script → ℕ → Result
-unfolding entered_deep module_bodies serial_of unbound
+unfolding entered_deep module_bodies examined
 kernel_run w k f vs x n =
     ended x.choices (entered_deep k.name x.own (module_bodies w k.funs) (suc n) (site_of k.funs f) vs (start x n))

@@ -1,52 +1,24 @@
 -- What a simple step gives, what the shape of a term is, and what a step on bits does (Core Erlang 1.0.3, section 5;
 -- contexts as OTP 25's bs_match instructions).
-use Rattle.std.specs.Prelude.{ℕ, ◌+◌, ◌-◌, List, [], ◌∷◌, ◌++◌, length, take, drop, Bool, false, not, ◌&&◌, eqb, Option, Some, None, if◌then◌else◌, codes}
-use Rattle.erl_base.specs.Names.{Name, same_name}
+use Rattle.std.specs.Prelude.{ℕ, ◌-◌, List, [], ◌∷◌, length, take, drop, Bool, eqb, Option, Some, None, if◌then◌else◌}
 use Rattle.erl_term.specs.Term as T
 use Rattle.erl_term.specs.Term.{Term}
 use Rattle.erl_term.specs.TermOrder.{same_term}
-use Rattle.erl_term.specs.Terms.{Values, terms, listed, list_of, word, tagged, value_at}
+use Rattle.erl_term.specs.Terms.{Values, terms, listed, value_at}
 use Rattle.erl_term.specs.Segments.{taken_size, segment_value}
-use Rattle.bif_table.specs.BuiltinAnswer.{lookup, answer}
+use Rattle.bif_table.specs.BuiltinAnswer.{answer}
 use Rattle.world_model.specs.World as W
 use Rattle.world_model.specs.Run.{M, ◌>>=◌, fail, ask}
 use Rattle.world_model.specs.Meaning.{single}
 use Rattle.world_model.specs.MapUpdate.{put_all}
-use Rattle.world_model.specs.Requests.{call_out, answers, is_send, send_to, send_or_call}
-use Rattle.step_machine.specs.Bodies.{Here, calling}
-use Rattle.core_meaning.specs.Calls.{badarity, raise_again}
+use Rattle.world_model.specs.Requests.{answers, send_to}
+use Rattle.world_model.specs.RemoteCalls.{call_terms, apply_term, raise_again}
+use Rattle.world_model.specs.Entries.{entering}
+use Rattle.step_machine.specs.Bodies.{Here, callees}
 use Rattle.core_meaning.specs.Evaluation.{build_each, or_badarg}
 use Rattle.kernel_form.specs.Kernel.{Simple, value, cons, tuple, map_put, bits, make_fun, bif, local, apply, remote, send, trace, raise, failing, Shape, is, is_cons, is_tuple, map_has, BinStep, start, integer, take_bits, done, mark, back, Seg, seg}
-use Rattle.kernel_meaning.specs.Environment.{Env, Rests, with_rest, read, read_all, read_pairs, read_parts, Setting, takes, width}
+use Rattle.kernel_meaning.specs.Environment.{Env, Rests, with_rest, read, read_all, read_pairs, read_parts, Setting, width}
 use Rattle.kernel_meaning.specs.PatternMatch.{match_segment, with_segment, made}
-
--- a call of a function of the module
-abbrev pub entering : Here → ℕ → Bool → Values → M Values
-entering here site tail vs = calling here site tail vs >>= single
-
--- a call of a fun; an entry by it is never in tail position
-abbrev pub apply_term : List ℕ → Here → Values → Term → M Values
-apply_term ws here vs (T.fun m s a cs) =
-    if not (eqb a (length vs)) then badarity (T.fun m s a cs) vs
-    else if same_name m here.name && takes ws s (a + length (listed cs))
-    then entering here s false (vs ++ listed cs)
-    else call_out (codes "erlang") (codes "apply") (T.fun m s a cs ∷ list_of vs T.nil ∷ [])
-apply_term ws here vs (T.extern m f a) =
-    if not (eqb a (length vs)) then badarity (T.extern m f a) vs else call_out m f vs
-apply_term ws here vs t = fail T.error (tagged (codes "badfun") t)
-
-unfoldable pub call_erlang : Here → Name → Values → M Values
-unfolding answer
-call_erlang here f vs = elim (lookup f (length vs)) [
-  | Some b ↦ answers (answer b here.own vs)
-  | None ↦ if is_send f then send_or_call f vs else call_out (codes "erlang") f vs
-]
-
-unfoldable pub call_terms : Here → Term → Term → Values → M Values
-unfolding call_erlang
-call_terms here (T.atom m) (T.atom f) vs =
-    if same_name m (codes "erlang") then call_erlang here f vs else call_out m f vs
-call_terms here _ _ vs = fail T.error (word (codes "badarg"))
 
 -- a fun of this module; its arity is what its function takes beside the captured terms
 abbrev pub fun_of : List ℕ → Here → ℕ → Values → Term
@@ -61,9 +33,9 @@ simply w here (map_put v ps) env tail = put_all (read_pairs env ps) (read env v)
 simply w here (bits ps) env tail = or_badarg (build_each (read_parts env ps))
 simply w here (make_fun n vs) env tail = single (fun_of w.widths here n (read_all env vs))
 simply w here (bif b vs) env tail = answers (answer b here.own (read_all env vs))
-simply w here (local n vs) env tail = entering here n tail (read_all env vs)
-simply w here (apply v vs) env tail = apply_term w.widths here (read_all env vs) (read env v)
-simply w here (remote m f vs) env tail = call_terms here (read env m) (read env f) (read_all env vs)
+simply w here (local n vs) env tail = entering here.enter n tail (read_all env vs)
+simply w here (apply v vs) env tail = apply_term (callees w.widths here) (read env v) (read_all env vs)
+simply w here (remote m f vs) env tail = call_terms here.own (read env m) (read env f) (read_all env vs)
 simply w here (send to v) env tail = send_to (read env to) (read env v)
 simply w here trace env tail = ask W.trace >>= λ r. single r.term
 simply w here (raise v r) env tail = raise_again (read env v) (read env r)

@@ -4,7 +4,7 @@ use Rattle.erl_base.specs.Names.{Name}
 use Rattle.erl_term.specs.Term.{Term}
 use Rattle.erl_term.specs.Terms.{Values}
 use Rattle.world_model.specs.Run.{M}
-use Rattle.step_machine.specs.Bodies.{Here}
+use Rattle.step_machine.specs.Bodies.{here_of}
 use Rattle.kernel_form.specs.Kernel.{Tree, Row, var, match_in}
 use Rattle.kernel_meaning.specs.Environment.{Env, no_rests, read_all, Setting}
 use Rattle.kernel_meaning.specs.KernelRun.{no_falls, tree, clauses}
@@ -12,9 +12,6 @@ use Rattle.pass_contract.specs.SameRun.{EntersAgree}
 use Rattle.pass_contract.specs.PassContract.{IsLeft}
 use Rattle.kernel_meaning.specs.Agreement.{TriedAgrees}
 use Rattle.kernel_meaning.specs.Walks.{binders, receives, let_calls}
-
-abbrev pub here_of : Name → Term → (ℕ → Values → M Term) → Here
-here_of name own f = record { name = name; own = own; enter = f }
 
 -- a whole tree, whose falls without an alternative take no row
 abbrev pub TreeAgrees : Tree → Tree → Type 0

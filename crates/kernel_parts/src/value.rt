@@ -34,9 +34,9 @@ pub struct KPart {
     pub binary: bool,
 }
 
-/// What gives one value. `Fun` makes a fun of a function and the terms that it captured, `Local` calls a function of the
-/// module by its site, `Apply` a fun value, `Remote` a function of a module by their names; `Raise` raises again what a
-/// trace keeps, and `Fail` raises an error.
+/// What gives one value. `Fun` makes a fun of a function and the terms that it captured, `Local` calls a function of
+/// the module by its site, `Apply` a fun value, `Remote` a function of a module by their names; `Raise` raises again
+/// what a trace keeps, and `Fail` raises an error.
 #[derive(Drop)]
 pub enum KSimple {
     Value(KValue),

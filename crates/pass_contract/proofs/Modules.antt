@@ -4,8 +4,10 @@ use Rattle.erl_base.specs.Names.{Name}
 use Rattle.erl_term.specs.Term.{Term}
 use Rattle.erl_term.specs.Terms.{Values}
 use Rattle.world_model.specs.Run.{State, Outcome, spent, M}
-use Rattle.pass_contract.specs.SameRun.{SameState, SameResult, EntersAgree, sub_binaries}
-use Rattle.pass_contract.specs.PassContract.{Run, HasOneResult, entering, GivesSame, Agrees, IsMeaning, MeansSame, FunctionsMakeModules, ModulesCompose, AtOnceAgrees}
+use Rattle.world_model.specs.Run.{sub_binaries}
+use Rattle.step_machine.specs.Bodies.{here_of}
+use Rattle.pass_contract.specs.SameRun.{SameState, SameResult, EntersAgree}
+use Rattle.pass_contract.specs.PassContract.{Run, HasOneResult, GivesSame, Agrees, IsMeaning, MeansSame, FunctionsMakeModules, ModulesCompose, AtOnceAgrees}
 
 itself : (s : State) → SameState s s
 itself s = record { replies = refl; mailbox = refl; next = refl; left = refl; done = refl; sub_binaries = omega arith }
@@ -33,16 +35,16 @@ pub record Entered (enter : ℕ → Values → M Term) : Type 0 where
   pub agrees : EntersAgree enter does
 
 module _ (old new : ℕ → Run) (single : (n : ℕ) → HasOneResult (new n)) (agrees : (n : ℕ) → Agrees (old n) (new n)) (name : Name) (own : Term) (enter : ℕ → ℕ → Values → M Term) (means : IsMeaning name own old enter) where
-  given : (d : ℕ) (x : Entered (enter d)) (n : ℕ) (vs : Values) (s t : State) → SameState s t → GivesSame (new n) (entering name own x.does) vs t (enter (suc d) n vs s)
+  given : (d : ℕ) (x : Entered (enter d)) (n : ℕ) (vs : Values) (s t : State) → SameState s t → GivesSame (new n) (here_of name own x.does) vs t (enter (suc d) n vs s)
   given d x n vs s t h = agrees n name own (enter d) x.does x.agrees vs s t h (enter (suc d) n vs s) (means.more d n vs s)
 
   next : (d : ℕ) → Entered (enter d) → Entered (enter (suc d))
   next d x = record {
     does = λ n vs t. (given d x n vs t t (itself t)).result;
     agrees = λ n vs s t h.
-        let p : GivesSame (new n) (entering name own x.does) vs t (enter (suc d) n vs s) = given d x n vs s t h in
-        let q : GivesSame (new n) (entering name own x.does) vs t (enter (suc d) n vs t) = given d x n vs t t (itself t) in
-        subst (SameResult (enter (suc d) n vs s)) (single n (entering name own x.does) vs t p.result q.result p.gives q.gives) p.same;
+        let p : GivesSame (new n) (here_of name own x.does) vs t (enter (suc d) n vs s) = given d x n vs s t h in
+        let q : GivesSame (new n) (here_of name own x.does) vs t (enter (suc d) n vs t) = given d x n vs t t (itself t) in
+        subst (SameResult (enter (suc d) n vs s)) (single n (here_of name own x.does) vs t p.result q.result p.gives q.gives) p.same;
   }
 
   nothing_entered : (n : ℕ) (vs : Values) (s t : State) → SameState s t → SameResult (enter zero n vs s) (t, spent)
@@ -73,9 +75,9 @@ compose a b c p q name own enter means =
 
 pub at_once_agrees : AtOnceAgrees
 at_once_agrees old new h name own f g e vs s t p r q = record {
-  result = new (entering name own g) vs t;
+  result = new (here_of name own g) vs t;
   gives = record { within = 0; gives = refl };
-  same = subst (λ z. SameResult z (new (entering name own g) vs t)) (some_is _ _ q.gives) (h name own f g e vs s t p);
+  same = subst (λ z. SameResult z (new (here_of name own g) vs t)) (some_is _ _ q.gives) (h name own f g e vs s t p);
 }
   where
     some_is : (a b : State × Outcome Term) → Some a ≡ Some b → a ≡ b

@@ -6,7 +6,7 @@ use Rattle.erl_term.specs.Term.{Term}
 use Rattle.erl_term.specs.Terms.{Values}
 use Rattle.world_model.specs.Run.{State, Outcome, spent, M}
 use Rattle.step_machine.specs.Bodies as Bodies
-use Rattle.step_machine.specs.Bodies.{Here}
+use Rattle.step_machine.specs.Bodies.{Here, here_of}
 use Rattle.pass_contract.specs.SameRun.{SameState, SameResult, EntersAgree}
 
 -- What a function does with arguments, where the others are entered so: where a run comes to in so many turns, if it is over
@@ -25,9 +25,6 @@ pub record Gives (run : Run) (here : Here) (vs : Values) (s : State) (r : State 
 abbrev pub HasOneResult : Run → Type 0
 HasOneResult run = (here : Here) (vs : Values) (s : State) (r q : State × Outcome Term) → Gives run here vs s r → Gives run here vs s q → r ≡ q
 
-abbrev pub entering : Name → Term → (ℕ → Values → M Term) → Here
-entering name own f = record { name = name; own = own; enter = f }
-
 -- the new function gives what the old one does, up to marks, and makes no more sub-binaries
 pub record GivesSame (new : Run) (here : Here) (vs : Values) (t : State) (r : State × Outcome Term) : Type 0 where
   pub result : State × Outcome Term
@@ -39,7 +36,7 @@ abbrev pub Agrees : Run → Run → Type 0
 Agrees old new =
     (name : Name) (own : Term) (f g : ℕ → Values → M Term) → EntersAgree f g →
     (vs : Values) (s t : State) → SameState s t → (r : State × Outcome Term) →
-    Gives old (entering name own f) vs s r → GivesSame new (entering name own g) vs t r
+    Gives old (here_of name own f) vs s r → GivesSame new (here_of name own g) vs t r
 
 -- What a contract sees of a function in some form: what it does in each setting of the module, the numbers of its receives,
 -- the variables that its calls are bound to, and all variables that it binds.
@@ -71,7 +68,7 @@ pub record Keeps {Setting : Type 0} (nodes : ℕ) (old new : Form Setting) : Typ
 -- functions entered at most d deep, for each d, whose results are what these runs give
 pub record IsMeaning (name : Name) (own : Term) (runs : ℕ → Run) (enter : ℕ → ℕ → Values → M Term) : Type 0 where
   pub none : (n : ℕ) (vs : Values) (s : State) → enter zero n vs s ≡ (s, spent)
-  pub more : (d n : ℕ) (vs : Values) (s : State) → Gives (runs n) (entering name own (enter d)) vs s (enter (suc d) n vs s)
+  pub more : (d n : ℕ) (vs : Values) (s : State) → Gives (runs n) (here_of name own (enter d)) vs s (enter (suc d) n vs s)
 
 -- the new module has a meaning where the old one has, and it agrees with it at every depth
 pub record MeansSame (name : Name) (own : Term) (new : ℕ → Run) (enter : ℕ → ℕ → Values → M Term) : Type 0 where
@@ -96,5 +93,5 @@ ModulesCompose = (a b c : ℕ → Run) → ModuleAgrees a b → ModuleAgrees b c
 abbrev pub AtOnceAgrees : Type 0
 AtOnceAgrees = (old new : Bodies.Body) →
     ((name : Name) (own : Term) (f g : ℕ → Values → M Term) → EntersAgree f g → (vs : Values) (s t : State) → SameState s t →
-    SameResult (old (entering name own f) vs s) (new (entering name own g) vs t))
+    SameResult (old (here_of name own f) vs s) (new (here_of name own g) vs t))
     → Agrees (at_once old) (at_once new)

@@ -1,8 +1,8 @@
 -- When two runs are the same: they do the same, and the new one makes no more sub-binaries (this project's own).
-use Rattle.std.specs.Prelude.{◌≡◌, ◌≤◌, ◌+◌, ℕ, List, [], ◌∷◌}
+use Rattle.std.specs.Prelude.{◌≡◌, ◌≤◌, ℕ, List, [], ◌∷◌}
 use Rattle.erl_term.specs.Term.{Term}
 use Rattle.erl_term.specs.Terms.{Values}
-use Rattle.world_model.specs.Run.{Note, happened, entered, looked, marked, began, cut, State, Outcome, M}
+use Rattle.world_model.specs.Run.{Note, happened, entered, looked, marked, began, cut, sub_binaries, State, Outcome, M}
 
 -- what a run does: what happens, which functions are entered and which messages are looked at, in their order
 abbrev pub done : List Note → List Note
@@ -13,16 +13,6 @@ done (looked l ∷ ns) = looked l ∷ done ns
 done (marked x ∷ ns) = done ns
 done (began o ∷ ns) = done ns
 done (cut n ∷ ns) = done ns
-
--- how many sub-binaries a run may make
-abbrev pub sub_binaries : List Note → ℕ
-sub_binaries [] = 0
-sub_binaries (happened h ∷ ns) = sub_binaries ns
-sub_binaries (entered e ∷ ns) = sub_binaries ns
-sub_binaries (looked l ∷ ns) = sub_binaries ns
-sub_binaries (marked x ∷ ns) = sub_binaries ns
-sub_binaries (began o ∷ ns) = sub_binaries ns
-sub_binaries (cut n ∷ ns) = n + sub_binaries ns
 
 -- two states that differ only in notes of marks, and the new one has no more sub-binaries
 pub record SameState (old new : State) : Type 0 where

@@ -6,7 +6,8 @@ use Rattle.erl_term.specs.Terms.{Values, only}
 use Rattle.world_model.specs.World.{Request, Reply}
 use Rattle.world_model.specs.Run.{Entry, State, entered, entries, Outcome, gives, raises, waits, spent, M, ◌>>=◌, after, give, fail, ask, ask_from, noting}
 use Rattle.world_model.specs.Meaning.{one, ends, either}
-use Rattle.step_machine.specs.Bodies.{Bodies, entered_deep, entry_left}
+use Rattle.world_model.specs.Entries.{entry_left}
+use Rattle.step_machine.specs.Bodies.{Bodies, entered_deep}
 use Rattle.step_machine.specs.EntryBound.{IsSpent, Kept, Keeps, KeepsBelow, BodiesKeep}
 
 module _ (d : ℕ) where

@@ -4,7 +4,7 @@ use Rattle.erl_term.specs.Term.{Term}
 use Rattle.world_model.specs.Run as Run
 use Rattle.world_model.specs.Run.{Entry, Outcome, gives, raises, waits, spent}
 use Rattle.world_model.specs.World.{Reply, asked}
-use Rattle.step_machine.specs.Follows.{Meant, EndsAs, IsPrefix, Follows, Next, OneWay, site_list}
+use Rattle.step_machine.specs.Follows.{Meant, EndsAs, IsSuffix, Follows, Next, OneWay, site_list}
 use Rattle.step_machine.specs.RunFacts.{Later}
 use Rattle.step_machine.specs.Steps.{Note, happened, entered, Stepped, goes, ends, bad, notes, asks, End, over, unfinished, is_bad, Ran, perform, run, happenings, sites}
 
@@ -110,7 +110,7 @@ module _ (R : ℕ → Ran) (E : ℕ → Meant) (once : (k : ℕ) → Once (R k) 
   meant : ℕ → List Run.Note
   meant k = (E (count k)).notes
 
-  within_of : (k : ℕ) → Once (R k) (R (at k)) → IsPrefix (happenings (R k).log) (Run.happenings (meant k)) × (sites (R k).log ≡ site_list (Run.entries (meant k)))
+  within_of : (k : ℕ) → Once (R k) (R (at k)) → IsSuffix (happenings (R k).log) (Run.happenings (meant k)) × (sites (R k).log ≡ site_list (Run.entries (meant k)))
   unfolding at count meant
   within_of k (inl e) =
       let w = (way.reaches (count k)).1.noted in

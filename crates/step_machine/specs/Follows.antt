@@ -48,8 +48,8 @@ pub record Reaches (r : Ran) (e : Meant) : Type 0 where
   pub noted : Noted e.notes r.log
   pub end : EndsAs r.end e.end
 
-abbrev pub IsPrefix : List Happening → List Happening → Type 0
-IsPrefix xs ys = (later : List Happening) × (ys ≡ later ++ xs)
+abbrev pub IsSuffix : List Happening → List Happening → Type 0
+IsSuffix xs ys = (later : List Happening) × (ys ≡ later ++ xs)
 
 abbrev pub bound_of : Ran → ℕ
 bound_of r = length (sites r.log)
@@ -58,7 +58,7 @@ bound_of r = length (sites r.log)
 pub record Follows (run : ℕ → Ran) (eval : ℕ → Meant) : Type 0 where
   pub reaches : (n : ℕ) → (k : ℕ) × Reaches (run k) (eval n)
   pub within : (k : ℕ) →
-      IsPrefix (happenings (run k).log) (Run.happenings (eval (bound_of (run k))).notes)
+      IsSuffix (happenings (run k).log) (Run.happenings (eval (bound_of (run k))).notes)
       × (sites (run k).log ≡ site_list (Run.entries (eval (bound_of (run k))).notes))
   pub ends : (k : ℕ) (o : Outcome Term) → (run k).end ≡ over o →
       (happenings (run k).log ≡ Run.happenings (eval (bound_of (run k))).notes) × ((eval (bound_of (run k))).end ≡ o)

@@ -4,15 +4,15 @@ use Rattle.std.specs.List.{list_all}
 use Rattle.std.proofs.lemmas.Bool.Decides.{nat_tests}
 use borrow.Author.Tests.{eqb-true}
 use Rattle.erl_base.specs.Names.{Name, same_name}
-use Rattle.core_chars.specs.Characters.{is_digit, is_sign, value_from}
+use Rattle.core_chars.specs.Characters.{is_lower, is_digit, is_sign, value_from}
 use Rattle.erl_term.specs.Term as T
 use Rattle.erl_term.specs.Term.{Term, no_pair, Class}
-use Rattle.erl_term.specs.Terms.{terms, list_of}
+use Rattle.erl_term.specs.Terms.{terms, list_of, put_all}
 use Rattle.erl_term.specs.BitString.{byte_bits}
-use Rattle.term_text.specs.Atoms.{is_small, is_name_character}
+use Rattle.term_text.specs.Atoms.{is_name_character}
 use Rattle.term_read.specs.Lexemes.{◌>>=◌, behind_blanks, behind_mark, mark_at, word_front, run_of, quoted_rest, no_fun, name_front, integer_front, integer_at, integer_of, with_rest, digits_front, below, number_at}
 use Rattle.term_read.specs.TermGrammar as G
-use Rattle.term_read.specs.TermGrammar.{Row, Items, ListEnd, PairOf, PartOf, Form, sized, part_at, whole_before_last, bits_in, number_in, extern_rest, fun_head, class_in, code_point, string_fits, is_byte, put_all, ReadsTerm}
+use Rattle.term_read.specs.TermGrammar.{Row, Items, ListEnd, PairOf, PartOf, Form, sized, part_at, whole_before_last, bits_in, number_in, extern_rest, fun_head, class_in, code_point, string_fits, is_byte, ReadsTerm}
 use Rattle.term_read.specs.Reading.{items_of, row_of, list_by, tuple_by, pair_by, map_by, marked_by, trace_by, identifier_by, hash_by, part_row, byte_text, bits_by, angle_by, string_by, of_word, word_by, quoted_by, integer_by, leaf_by, form_by, read_by}
 use Rattle.term_read.specs.declared.flat.Part.{Part}
 use Rattle.term_read.proofs.ItemRows.{no_items}
@@ -162,7 +162,7 @@ number_is_not c k h g = by (eqb c k) refl
     by false e = refl
     by true e = absurd (never (sym h ∙ ap (λ x. is_sign x || is_digit x) (eqb-true c k e) ∙ g))
 
-number_no_letter : (c : ℕ) → (is_sign c || is_digit c) ≡ true → is_small c ≡ false
+number_no_letter : (c : ℕ) → (is_sign c || is_digit c) ≡ true → is_lower c ≡ false
 number_no_letter c h = grind (arith, nat_tests, h)
 
 number_form : (d : ℕ) (p : List ℕ → Option (Term × List ℕ)) (c : ℕ) (cs : List ℕ) → (is_sign c || is_digit c) ≡ true → form_by d p (c ∷ cs) ≡ integer_by (c ∷ cs)
@@ -174,16 +174,16 @@ number_form d p c cs h =
     (skip (eqb c 60) (angle_by cs) _ _ (number_is_not c 60 h refl)
     (skip (eqb c 34) (string_by d cs) _ _ (number_is_not c 34 h refl)
     (skip (eqb c 39) (quoted_by cs) _ _ (number_is_not c 39 h refl)
-    (skip (is_small c) (word_by (c ∷ cs)) _ _ (number_no_letter c h) refl))))))
+    (skip (is_lower c) (word_by (c ∷ cs)) _ _ (number_no_letter c h) refl))))))
 
-letter_is_not : (c k : ℕ) → is_small c ≡ true → is_small k ≡ false → eqb c k ≡ false
+letter_is_not : (c k : ℕ) → is_lower c ≡ true → is_lower k ≡ false → eqb c k ≡ false
 letter_is_not c k h g = by (eqb c k) refl
   where
     by : (b : Bool) → eqb c k ≡ b → b ≡ false
     by false e = refl
-    by true e = absurd (never (sym h ∙ ap is_small (eqb-true c k e) ∙ g))
+    by true e = absurd (never (sym h ∙ ap is_lower (eqb-true c k e) ∙ g))
 
-word_form : (d : ℕ) (p : List ℕ → Option (Term × List ℕ)) (c : ℕ) (cs : List ℕ) → is_small c ≡ true → form_by d p (c ∷ cs) ≡ word_by (c ∷ cs)
+word_form : (d : ℕ) (p : List ℕ → Option (Term × List ℕ)) (c : ℕ) (cs : List ℕ) → is_lower c ≡ true → form_by d p (c ∷ cs) ≡ word_by (c ∷ cs)
 unfolding form_by leaf_by
 word_form d p c cs h =
     skip (eqb c 91) (list_by p cs) _ _ (letter_is_not c 91 h refl)
@@ -194,8 +194,8 @@ word_form d p c cs h =
     (skip (eqb c 39) (quoted_by cs) _ _ (letter_is_not c 39 h refl)
     (ap (λ b. if b then word_by (c ∷ cs) else integer_by (c ∷ cs)) h))))))
 
-word_small : (c : ℕ) (cs : List ℕ) (w : List ℕ × List ℕ) → word_front (c ∷ cs) ≡ Some w → is_small c ≡ true
-word_small c cs w e = (chosen (is_small c) (run_of is_name_character (c ∷ cs)) w e).0
+word_small : (c : ℕ) (cs : List ℕ) (w : List ℕ × List ℕ) → word_front (c ∷ cs) ≡ Some w → is_lower c ≡ true
+word_small c cs w e = (chosen (is_lower c) (run_of is_name_character (c ∷ cs)) w e).0
 
 integer_read : (d : ℕ) (p : List ℕ → Option (Term × List ℕ)) (cs ds : List ℕ) (z : ℤ) → integer_front cs ≡ Some (z, ds) → form_by d p cs ≡ Some (T.int z, ds)
 unfolding integer_by

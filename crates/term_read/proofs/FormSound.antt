@@ -7,12 +7,12 @@ use Rattle.erl_term.proofs.Forms.{left_true, right_true}
 use Rattle.erl_base.specs.Names.{Name, same_name}
 use Rattle.erl_term.specs.Term as T
 use Rattle.erl_term.specs.Term.{Term, no_pair, Class}
-use Rattle.erl_term.specs.Terms.{terms, list_of}
+use Rattle.erl_term.specs.Terms.{terms, list_of, put_all}
 use Rattle.erl_term.specs.BitString.{byte_bits}
-use Rattle.term_text.specs.Atoms.{is_small}
 use Rattle.term_read.specs.Lexemes.{◌>>=◌, behind_blanks, behind_mark, mark_at, word_front, quoted_rest, no_fun, name_front, integer_front}
 use Rattle.term_read.specs.TermGrammar as G
-use Rattle.term_read.specs.TermGrammar.{Row, Items, ListEnd, PairOf, PartOf, Form, part_at, whole_before_last, bits_in, number_in, extern_rest, fun_head, class_in, code_point, string_fits, is_byte, put_all, ReadsTerm}
+use Rattle.term_read.specs.TermGrammar.{Row, Items, ListEnd, PairOf, PartOf, Form, part_at, whole_before_last, bits_in, number_in, extern_rest, fun_head, class_in, code_point, string_fits, is_byte, ReadsTerm}
+use Rattle.core_chars.specs.Characters.{is_lower}
 use Rattle.term_read.specs.Reading.{choice, items_of, row_of, list_end, list_by, tuple_by, pair_by, map_by, fun_by, marked_by, trace_by, identifier_by, hash_by, part_row, byte_text, bits_by, angle_by, string_by, of_word, word_by, quoted_by, integer_by, leaf_by, form_by, read_by}
 use Rattle.term_read.specs.declared.flat.FunHead.{FunHead}
 use Rattle.term_read.specs.declared.flat.Part.{Part}
@@ -173,10 +173,10 @@ quoted_sound d R cs ds t e =
     along d R (39 ∷ cs) (T.atom (a.0).0, (a.0).1) (t, ds) a.2 (G.atom (39 ∷ cs) (a.0).1 (a.0).0 a.1)
 
 -- a small letter is no quote
-small_no_quote : (c : ℕ) → is_small c ≡ true → eqb c 39 ≡ false
+small_no_quote : (c : ℕ) → is_lower c ≡ true → eqb c 39 ≡ false
 small_no_quote c h = grind (arith, nat_tests, h)
 
-word_sound : (d : ℕ) (R : List ℕ → Term → List ℕ → Type 0) (c : ℕ) (cs : List ℕ) → is_small c ≡ true → Reads d R (c ∷ cs) (word_by (c ∷ cs))
+word_sound : (d : ℕ) (R : List ℕ → Term → List ℕ → Type 0) (c : ℕ) (cs : List ℕ) → is_lower c ≡ true → Reads d R (c ∷ cs) (word_by (c ∷ cs))
 unfolding word_by
 word_sound d R c cs h ds t e =
     let w = bound (word_front (c ∷ cs)) of_word (t, ds) e in
@@ -206,19 +206,19 @@ first_sound d R k c cs this other h g ds t e = by (eqb c k) refl e
     by true f e = subst (λ x. Form d R (x ∷ cs) t ds) (sym (eqb-true c k f)) (h ds t e)
     by false f e = g f ds t e
 
-word_or_integer : (d : ℕ) (R : List ℕ → Term → List ℕ → Type 0) (c : ℕ) (cs : List ℕ) → Reads d R (c ∷ cs) (if is_small c then word_by (c ∷ cs) else integer_by (c ∷ cs))
-word_or_integer d R c cs ds t e = by (is_small c) refl e
+word_or_integer : (d : ℕ) (R : List ℕ → Term → List ℕ → Type 0) (c : ℕ) (cs : List ℕ) → Reads d R (c ∷ cs) (if is_lower c then word_by (c ∷ cs) else integer_by (c ∷ cs))
+word_or_integer d R c cs ds t e = by (is_lower c) refl e
   where
-    by : (b : Bool) → is_small c ≡ b → (if b then word_by (c ∷ cs) else integer_by (c ∷ cs)) ≡ Some (t, ds) → Form d R (c ∷ cs) t ds
+    by : (b : Bool) → is_lower c ≡ b → (if b then word_by (c ∷ cs) else integer_by (c ∷ cs)) ≡ Some (t, ds) → Form d R (c ∷ cs) t ds
     by true f e = word_sound d R c cs f ds t e
     by false f e = integer_sound d R (c ∷ cs) ds t e
 
 leaf_sound : (d : ℕ) (R : List ℕ → Term → List ℕ → Type 0) (c : ℕ) (cs : List ℕ) → Reads d R (c ∷ cs) (leaf_by d (c ∷ cs))
 unfolding leaf_by
 leaf_sound d R c cs =
-    first_sound d R 60 c cs (angle_by cs) (if eqb c 34 then string_by d cs else if eqb c 39 then quoted_by cs else if is_small c then word_by (c ∷ cs) else integer_by (c ∷ cs)) (angle_sound d R cs)
-    (λ f. first_sound d R 34 c cs (string_by d cs) (if eqb c 39 then quoted_by cs else if is_small c then word_by (c ∷ cs) else integer_by (c ∷ cs)) (string_sound d R cs)
-    (λ g. first_sound d R 39 c cs (quoted_by cs) (if is_small c then word_by (c ∷ cs) else integer_by (c ∷ cs)) (quoted_sound d R cs) (λ h. word_or_integer d R c cs)))
+    first_sound d R 60 c cs (angle_by cs) (if eqb c 34 then string_by d cs else if eqb c 39 then quoted_by cs else if is_lower c then word_by (c ∷ cs) else integer_by (c ∷ cs)) (angle_sound d R cs)
+    (λ f. first_sound d R 34 c cs (string_by d cs) (if eqb c 39 then quoted_by cs else if is_lower c then word_by (c ∷ cs) else integer_by (c ∷ cs)) (string_sound d R cs)
+    (λ g. first_sound d R 39 c cs (quoted_by cs) (if is_lower c then word_by (c ∷ cs) else integer_by (c ∷ cs)) (quoted_sound d R cs) (λ h. word_or_integer d R c cs)))
 
 pub form_sound : (d : ℕ) (p : List ℕ → Option (Term × List ℕ)) (R : List ℕ → Term → List ℕ → Type 0) → Sound p R → (cs : List ℕ) → Reads d R cs (form_by d p cs)
 unfolding form_by

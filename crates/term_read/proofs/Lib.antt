@@ -1,7 +1,6 @@
 mod Integers
 pub mod Shorter
 pub mod ItemRows
-pub mod MapRuns
 mod PartBits
 pub mod Deciding
 mod PartRows

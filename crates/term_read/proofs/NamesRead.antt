@@ -7,11 +7,11 @@ use Rattle.std.proofs.lemmas.Bool.Decides.{nat_tests}
 use borrow.Author.Tests.{eqb-true}
 use Rattle.erl_base.specs.Names.{Name, same_name}
 use Rattle.erl_term.proofs.Forms.{left_true, right_true, both_true}
-use Rattle.core_chars.specs.Characters.{first_is}
+use Rattle.core_chars.specs.Characters.{first_is, is_lower, is_upper, is_digit}
 use Rattle.core_chars.specs.Escapes.{quoted_char}
 use Rattle.core_chars.specs.Quoted.{quoted_text}
 use Rattle.core_chars.proofs.Quoting.{behind, passed_over}
-use Rattle.term_text.specs.Atoms.{is_small, is_within, is_name_character, is_kept, is_plain_name, kept_words, quoted_character, quoted_characters, atom_text}
+use Rattle.term_text.specs.Atoms.{is_name_character, is_kept, is_plain_name, kept_words, quoted_character, quoted_characters, atom_text}
 use Rattle.term_read.specs.Lexemes.{is_blank, behind_blanks, blanks_skipped, run_of, word_front, unquoted, quoted_rest, no_fun, name_front}
 use Rattle.term_read.specs.Printed.{Ends}
 use Rattle.std.proofs.lemmas.Fmt.{hex_one_digit, hex_two_digits}
@@ -52,8 +52,8 @@ later_none (suc n) t (w ∷ ws) h = later_none n t ws (later_words t w ws h)
 pub not_fun : (a : Name) → is_kept a ≡ false → same_name (codes "fun") a ≡ false
 not_fun a h = first_word (λ w. same_name w a) (codes "fun") (drop 17 kept_words) (later_none 16 (λ w. same_name w a) kept_words h)
 
-small_name : (c : ℕ) → is_small c ≡ true → is_name_character c ≡ true
-small_name c h = ap (λ b. b || is_within 65 90 c || is_within 48 57 c || eqb c 95 || eqb c 64) h
+small_name : (c : ℕ) → is_lower c ≡ true → is_name_character c ≡ true
+small_name c h = ap (λ b. b || is_upper c || is_digit c || eqb c 95 || eqb c 64) h
 
 not_true : (b : Bool) → not b ≡ true → b ≡ false
 not_true true h = absurd cc
@@ -63,10 +63,10 @@ plain_read : (a r : List ℕ) → Ends r → is_plain_name a ≡ true → (behin
 unfolding behind_blanks
 plain_read [] r h e = absurd cc
 plain_read (c ∷ cs) r h e =
-    let word : IsTrue (is_small c && list_all is_name_character cs) = left_true (is_small c && list_all is_name_character cs) (not (is_kept (c ∷ cs))) e in
-    let small : is_small c ≡ true = left_true (is_small c) (list_all is_name_character cs) word in
-    let names : IsTrue (list_all is_name_character (c ∷ cs)) = both_true (is_name_character c) (list_all is_name_character cs) (small_name c small) (right_true (is_small c) (list_all is_name_character cs) word) in
-    let kept : is_kept (c ∷ cs) ≡ false = not_true (is_kept (c ∷ cs)) (right_true (is_small c && list_all is_name_character cs) (not (is_kept (c ∷ cs))) e) in
+    let word : IsTrue (is_lower c && list_all is_name_character cs) = left_true (is_lower c && list_all is_name_character cs) (not (is_kept (c ∷ cs))) e in
+    let small : is_lower c ≡ true = left_true (is_lower c) (list_all is_name_character cs) word in
+    let names : IsTrue (list_all is_name_character (c ∷ cs)) = both_true (is_name_character c) (list_all is_name_character cs) (small_name c small) (right_true (is_lower c) (list_all is_name_character cs) word) in
+    let kept : is_kept (c ∷ cs) ≡ false = not_true (is_kept (c ∷ cs)) (right_true (is_lower c && list_all is_name_character cs) (not (is_kept (c ∷ cs))) e) in
     let no_blank : is_blank c ≡ false = grind (arith, nat_tests, small) in
     let no_comment : eqb c 37 ≡ false = grind (arith, nat_tests, small) in
     let no_quote : eqb c 39 ≡ false = grind (arith, nat_tests, small) in (

@@ -8,7 +8,8 @@ use Rattle.erl_term.proofs.Forms.{left_true, right_true, both_true}
 use Rattle.core_chars.specs.Characters.{is_digit, is_sign, first_is, value_from}
 use Rattle.term_text.specs.Decimal.{digits_on, decimal_on, integer_on}
 use Rattle.term_read.specs.Lexemes.{◌>>=◌, is_blank, behind_blanks, blanks_skipped, run_of, integer_of, with_rest, digits_front, integer_front, integer_at, below, number_at}
-use Rattle.term_read.specs.Printed.{Ends, is_within_128}
+use Rattle.term_read.specs.Printed.{Ends}
+use Rattle.erl_term.specs.Ranges.{is_within_128}
 
 -- Runs.
 
@@ -152,5 +153,8 @@ pub integer_read : (z : ℤ) (r : List ℕ) → Ends r → IsTrue (is_within_128
 unfolding behind_blanks
 integer_read (pos n) r h w =
     let solid = digits_solid (decimal_on n r) (decimal_digit n r) in
-    (solid.0, solid.1 ∙ digits_read false n r h ∙ ap (λ b. with_rest (if b then Some (pos n) else None) r) w)
-integer_read (negsuc n) r h w = (refl, digits_read true (suc n) r h ∙ ap (λ b. with_rest (if b then Some (negsuc n) else None) r) w)
+    let small : leb n (2 ^ 127 - 1) ≡ true = grind (arith, nat_tests, w) in
+    (solid.0, solid.1 ∙ digits_read false n r h ∙ ap (λ b. with_rest (if b then Some (pos n) else None) r) small)
+integer_read (negsuc n) r h w =
+    let small : leb (suc n) (2 ^ 127) ≡ true = grind (arith, nat_tests, w) in
+    (refl, digits_read true (suc n) r h ∙ ap (λ b. with_rest (if b then Some (negsuc n) else None) r) small)

@@ -13,7 +13,7 @@ use Rattle.erl_term.proofs.Forms.{left_true, right_true, both_true}
 use Rattle.erl_term.proofs.BitOrder.{length-bits_of, length-byte_bits}
 use Rattle.term_read.specs.declared.flat.Part.{Part}
 use Rattle.term_read.specs.TermGrammar.{whole_before_last, bits_in}
-use Rattle.term_read.specs.WellRead.{is_part, AreParts}
+use Rattle.term_read.specs.BitParts.{is_part, AreParts}
 use Rattle.term_text.proofs.BitText.{high_bits}
 
 -- the byte that holds a part in its highest bits

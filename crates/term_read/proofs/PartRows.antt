@@ -4,7 +4,7 @@ use Rattle.std.specs.List.{list_all}
 use Rattle.erl_term.proofs.Forms.{left_true, right_true, both_true}
 use Rattle.term_read.specs.declared.flat.Part.{Part}
 use Rattle.term_read.specs.TermGrammar.{part_at}
-use Rattle.term_read.specs.WellRead.{is_part, AreParts}
+use Rattle.term_read.specs.BitParts.{is_part, AreParts}
 use Rattle.term_read.proofs.ItemRows.{Consumes}
 use Rattle.term_read.proofs.Shorter.{part_shorter}
 

@@ -2,10 +2,10 @@
 use Rattle.std.proofs.Common.{◌≡◌, ℕ, ◌+◌, ◌<◌, ◌≤◌, refl, sym, ap, ◌∙◌, subst, List, [], ◌∷◌, ◌++◌, length, Option, Some, None, Bool, true, false, if◌then◌else◌, eqb, not, ◌||◌, arith, ap₂, length-append, length-drop, drop, take_while, codes, ℤ, pos, negsuc, ltb, leb, cond, min, length-take, ◌&&◌, ◌^◌}
 use borrow.Author.Tests.{eqb-true}
 use Rattle.std.specs.List.{prefix_len}
-use Rattle.core_chars.specs.Characters.{is_digit, is_sign, first_is, value_from}
+use Rattle.core_chars.specs.Characters.{is_lower, is_upper, is_digit, is_sign, first_is, value_from}
 use Rattle.core_chars.specs.Quoted.{quoted_text}
 use Rattle.erl_base.specs.Names.{Name, same_name}
-use Rattle.term_text.specs.Atoms.{is_small, is_name_character, is_within}
+use Rattle.term_text.specs.Atoms.{is_name_character}
 use Rattle.term_read.specs.Lexemes.{◌>>=◌, is_blank, blanks_skipped, behind_blanks, behind_mark, mark_at, run_of, word_front, unquoted, quoted_rest, no_fun, name_front, name_at, integer_of, with_rest, digits_front, integer_front, integer_at, below, number_at}
 use Rattle.term_read.specs.TermGrammar.{of_size, sized, part_at, number_in, extern_rest, fun_head, class_named, class_in}
 use Rattle.erl_term.specs.Term as T
@@ -81,12 +81,12 @@ word_part true w cs x h e = let s : w ≡ x = some_same w x e in subst (λ (y : 
 word_part false w cs x h e = absurd cc
 
 pub word_shorter : Leaves word_front
-word_shorter cs ds a e = word_part (first_is is_small cs) (run_of is_name_character cs) cs (a, ds) (λ h. names cs h) e
+word_shorter cs ds a e = word_part (first_is is_lower cs) (run_of is_name_character cs) cs (a, ds) (λ h. names cs h) e
   where
-    small_name : (c : ℕ) → is_small c ≡ true → is_name_character c ≡ true
-    small_name c h = ap (λ b. b || is_within 65 90 c || is_within 48 57 c || eqb c 95 || eqb c 64) h
+    small_name : (c : ℕ) → is_lower c ≡ true → is_name_character c ≡ true
+    small_name c h = ap (λ b. b || is_upper c || is_digit c || eqb c 95 || eqb c 64) h
 
-    names : (cs : List ℕ) → first_is is_small cs ≡ true → length (run_of is_name_character cs).1 < length cs
+    names : (cs : List ℕ) → first_is is_lower cs ≡ true → length (run_of is_name_character cs).1 < length cs
     names [] h = absurd cc
     names (c ∷ cs) h = run_shorter is_name_character (c ∷ cs) (small_name c h)
 

@@ -4,7 +4,7 @@ use Rattle.std.proofs.lemmas.Bool.{ltb-true}
 use Rattle.erl_base.specs.Names.{Name}
 use Rattle.erl_term.specs.Term as T
 use Rattle.erl_term.specs.Term.{Term, Terms, none, more, Pairs, no_pair, pair, Class}
-use Rattle.erl_term.specs.Terms.{terms, list_of, listed}
+use Rattle.erl_term.specs.Terms.{terms, list_of, listed, listed_pairs, put_all}
 use Rattle.erl_term.specs.Depth.{depths, depth, deepest, deepest_pair}
 use Rattle.erl_term.specs.WellFormed.{comes_first, maps_rise, all_rise, pairs_rise}
 use Rattle.erl_term.proofs.Forms.{left_true, right_true}
@@ -13,12 +13,13 @@ use Rattle.term_text.specs.Atoms.{is_name_character, atom_text}
 use Rattle.term_text.specs.TermText.{texts, term_on, rest_on, row_on, pairs_on, bits_on, class_text, printed}
 use Rattle.term_read.specs.Lexemes.{◌>>=◌, is_blank, behind_blanks, blanks_skipped, mark_at, word_front, name_at, name_front, number_at}
 use Rattle.term_read.specs.TermGrammar as G
-use Rattle.term_read.specs.TermGrammar.{Row, Items, ListEnd, PairOf, PartOf, Form, ReadsTerm, number_in, extern_rest, fun_head, class_named, class_in, put_all, bits_in, IsTermText}
+use Rattle.term_read.specs.TermGrammar.{Row, Items, ListEnd, PairOf, PartOf, Form, ReadsTerm, number_in, extern_rest, fun_head, class_named, class_in, bits_in, IsTermText}
 use Rattle.term_read.specs.declared.flat.FunHead.{FunHead}
-use Rattle.term_read.specs.Printed.{Ends, in_range, all_in_range, pairs_in_range}
+use Rattle.term_read.specs.Printed.{Ends}
+use Rattle.erl_term.specs.Ranges.{fits, all_fit, pairs_fit}
 use Rattle.term_read.proofs.NumbersRead.{run_is, number_read, integer_read}
 use Rattle.term_read.proofs.NamesRead.{name_read}
-use Rattle.term_read.proofs.MapRuns.{listed_pairs, put_all-rising}
+use Rattle.erl_term.proofs.MapRuns.{put_all-rising}
 use Rattle.term_read.proofs.BitsRead.{BitsRow, bits_row}
 
 -- a term is read from the front of these characters, at once
@@ -52,21 +53,21 @@ comma_there r = refl
 
 -- each term that nests at most d deep is read
 abbrev AllRead : ℕ → Type 0
-AllRead d = (t : Term) → depth t ≤ d → IsTrue (in_range t) → IsTrue (maps_rise t) → (r : List ℕ) → Ends r → ReadsTerm d (term_on t r) t r
+AllRead d = (t : Term) → depth t ≤ d → IsTrue (fits t) → IsTrue (maps_rise t) → (r : List ℕ) → Ends r → ReadsTerm d (term_on t r) t r
 
-row_items : (d c : ℕ) → AllRead d → (t : Term) (ts : Terms) (r : List ℕ) → Closes c r → deepest (more t ts) ≤ d → IsTrue (all_in_range (more t ts)) → IsTrue (all_rise (more t ts))
+row_items : (d c : ℕ) → AllRead d → (t : Term) (ts : Terms) (r : List ℕ) → Closes c r → deepest (more t ts) ≤ d → IsTrue (all_fit (more t ts)) → IsTrue (all_rise (more t ts))
     → Items (ReadsTerm d) (row_on true (more t ts) (c ∷ r)) (listed (more t ts)) (c ∷ r)
-unfolding texts depths in_range maps_rise
+unfolding texts depths maps_rise
 row_items d c h t none r k l f g =
     G.one_item (term_on t (c ∷ r)) (c ∷ r) t
-    (h t (omega (arith, l)) (left_true (in_range t) true f) (left_true (maps_rise t) true g) (c ∷ r) k.no_name) k.no_comma
+    (h t (omega (arith, l)) (left_true (fits t) true f) (left_true (maps_rise t) true g) (c ∷ r) k.no_name) k.no_comma
 row_items d c h t (more u us) r k l f g =
     G.more_items (term_on t (44 ∷ row_on true (more u us) (c ∷ r))) (44 ∷ row_on true (more u us) (c ∷ r)) (row_on true (more u us) (c ∷ r)) (c ∷ r) t (listed (more u us))
-    (h t (omega (arith, l)) (left_true (in_range t) (all_in_range (more u us)) f) (left_true (maps_rise t) (all_rise (more u us)) g) (44 ∷ row_on true (more u us) (c ∷ r)) refl)
+    (h t (omega (arith, l)) (left_true (fits t) (all_fit (more u us)) f) (left_true (maps_rise t) (all_rise (more u us)) g) (44 ∷ row_on true (more u us) (c ∷ r)) refl)
     (comma_there (row_on true (more u us) (c ∷ r)))
-    (row_items d c h u us r k (omega (arith, l)) (right_true (in_range t) (all_in_range (more u us)) f) (right_true (maps_rise t) (all_rise (more u us)) g))
+    (row_items d c h u us r k (omega (arith, l)) (right_true (fits t) (all_fit (more u us)) f) (right_true (maps_rise t) (all_rise (more u us)) g))
 
-row_read : (d c : ℕ) → AllRead d → (ts : Terms) (r : List ℕ) → Closes c r → deepest ts ≤ d → IsTrue (all_in_range ts) → IsTrue (all_rise ts)
+row_read : (d c : ℕ) → AllRead d → (ts : Terms) (r : List ℕ) → Closes c r → deepest ts ≤ d → IsTrue (all_fit ts) → IsTrue (all_rise ts)
     → Row (ReadsTerm d) (c ∷ []) (row_on true ts (c ∷ r)) (listed ts) r
 unfolding texts
 row_read d c h none r k l f g = G.no_item (c ∷ r) r k.closed
@@ -90,7 +91,7 @@ marks_end : (r : List ℕ) → (mark_at (codes ",") (93 ∷ r) ≡ None) × (mar
 unfolding mark_at behind_blanks
 marks_end r = (refl, refl, refl, refl)
 
-tail_read : (d : ℕ) → AllRead d → (x y : Term) (r : List ℕ) → rest_on y r ≡ 124 ∷ term_on y (93 ∷ r) → depth x ≤ d → depth y ≤ d → IsTrue (in_range x) → IsTrue (in_range y) → IsTrue (maps_rise x) → IsTrue (maps_rise y)
+tail_read : (d : ℕ) → AllRead d → (x y : Term) (r : List ℕ) → rest_on y r ≡ 124 ∷ term_on y (93 ∷ r) → depth x ≤ d → depth y ≤ d → IsTrue (fits x) → IsTrue (fits y) → IsTrue (maps_rise x) → IsTrue (maps_rise y)
     → ListRead d x y r
 tail_read d h x y r e l m f g i j = record {
   items = x ∷ [];
@@ -102,8 +103,8 @@ tail_read d h x y r e l m f g i j = record {
   whole = refl;
 }
 
-list_read : (d : ℕ) → AllRead d → (x y : Term) (r : List ℕ) → depth x ≤ d → (depths y).rest ≤ d → IsTrue (in_range x) → IsTrue (in_range y) → IsTrue (maps_rise x) → IsTrue (maps_rise y) → ListRead d x y r
-unfolding texts depths in_range maps_rise
+list_read : (d : ℕ) → AllRead d → (x y : Term) (r : List ℕ) → depth x ≤ d → (depths y).rest ≤ d → IsTrue (fits x) → IsTrue (fits y) → IsTrue (maps_rise x) → IsTrue (maps_rise y) → ListRead d x y r
+unfolding texts depths maps_rise
 list_read d h x T.nil r l m f g i j = record {
   items = x ∷ [];
   last = T.nil;
@@ -113,7 +114,7 @@ list_read d h x T.nil r l m f g i j = record {
   whole = refl;
 }
 list_read d h x (T.cons y z) r l m f g i j =
-    let rest = list_read d h y z r (omega (arith, m)) (omega (arith, m)) (left_true (in_range y) (in_range z) g) (right_true (in_range y) (in_range z) g) (left_true (maps_rise y) (maps_rise z) j) (right_true (maps_rise y) (maps_rise z) j) in
+    let rest = list_read d h y z r (omega (arith, m)) (omega (arith, m)) (left_true (fits y) (fits z) g) (right_true (fits y) (fits z) g) (left_true (maps_rise y) (maps_rise z) j) (right_true (maps_rise y) (maps_rise z) j) in
     record {
       items = x ∷ rest.items;
       last = rest.last;
@@ -131,7 +132,7 @@ arrow_there : (r : List ℕ) → mark_at (codes "=>") (61 ∷ 62 ∷ r) ≡ Some
 unfolding mark_at behind_blanks
 arrow_there r = refl
 
-one_pair : (d : ℕ) → AllRead d → (k v : Term) (r : List ℕ) → Ends r → depth k ≤ d → depth v ≤ d → IsTrue (in_range k) → IsTrue (in_range v) → IsTrue (maps_rise k) → IsTrue (maps_rise v)
+one_pair : (d : ℕ) → AllRead d → (k v : Term) (r : List ℕ) → Ends r → depth k ≤ d → depth v ≤ d → IsTrue (fits k) → IsTrue (fits v) → IsTrue (maps_rise k) → IsTrue (maps_rise v)
     → PairOf (ReadsTerm d) (term_on k (61 ∷ 62 ∷ term_on v r)) (k, v) r
 one_pair d h k v r n l m f g i j =
     G.key_and_value (term_on k (61 ∷ 62 ∷ term_on v r)) (61 ∷ 62 ∷ term_on v r) (term_on v r) r k v
@@ -141,31 +142,31 @@ record PairParts (d : ℕ) (k v : Term) (ps : Pairs) : Type 0 where
   key_depth : depth k ≤ d
   value_depth : depth v ≤ d
   rest_depth : deepest_pair ps ≤ d
-  key_range : IsTrue (in_range k)
-  value_range : IsTrue (in_range v)
-  rest_range : IsTrue (pairs_in_range ps)
+  key_range : IsTrue (fits k)
+  value_range : IsTrue (fits v)
+  rest_range : IsTrue (pairs_fit ps)
   key_rises : IsTrue (maps_rise k)
   value_rises : IsTrue (maps_rise v)
   rest_rises : IsTrue (pairs_rise ps)
 
-pair_parts : (d : ℕ) (k v : Term) (ps : Pairs) → deepest_pair (pair k v ps) ≤ d → IsTrue (pairs_in_range (pair k v ps)) → IsTrue (pairs_rise (pair k v ps)) → PairParts d k v ps
-unfolding depths in_range maps_rise
+pair_parts : (d : ℕ) (k v : Term) (ps : Pairs) → deepest_pair (pair k v ps) ≤ d → IsTrue (pairs_fit (pair k v ps)) → IsTrue (pairs_rise (pair k v ps)) → PairParts d k v ps
+unfolding depths maps_rise
 pair_parts d k v ps l f g =
-    let both : IsTrue (in_range k && in_range v) = left_true (in_range k && in_range v) (pairs_in_range ps) f in
+    let both : IsTrue (fits k && fits v) = left_true (fits k && fits v) (pairs_fit ps) f in
     let front = left_true (comes_first k ps && maps_rise k && maps_rise v) (pairs_rise ps) g in
     record {
       key_depth = omega (arith, l);
       value_depth = omega (arith, l);
       rest_depth = omega (arith, l);
-      key_range = left_true (in_range k) (in_range v) both;
-      value_range = right_true (in_range k) (in_range v) both;
-      rest_range = right_true (in_range k && in_range v) (pairs_in_range ps) f;
+      key_range = left_true (fits k) (fits v) both;
+      value_range = right_true (fits k) (fits v) both;
+      rest_range = right_true (fits k && fits v) (pairs_fit ps) f;
       key_rises = right_true (comes_first k ps) (maps_rise k) (left_true (comes_first k ps && maps_rise k) (maps_rise v) front);
       value_rises = right_true (comes_first k ps && maps_rise k) (maps_rise v) front;
       rest_rises = right_true (comes_first k ps && maps_rise k && maps_rise v) (pairs_rise ps) g;
     }
 
-pair_items : (d : ℕ) → AllRead d → (k v : Term) (ps : Pairs) (r : List ℕ) → deepest_pair (pair k v ps) ≤ d → IsTrue (pairs_in_range (pair k v ps)) → IsTrue (pairs_rise (pair k v ps))
+pair_items : (d : ℕ) → AllRead d → (k v : Term) (ps : Pairs) (r : List ℕ) → deepest_pair (pair k v ps) ≤ d → IsTrue (pairs_fit (pair k v ps)) → IsTrue (pairs_rise (pair k v ps))
     → Items (PairOf (ReadsTerm d)) (pairs_on true (pair k v ps) (125 ∷ r)) (listed_pairs (pair k v ps)) (125 ∷ r)
 unfolding texts
 pair_items d h k v no_pair r l f g =
@@ -178,7 +179,7 @@ pair_items d h k v (pair l w ps) r n f g =
     (one_pair d h k v (44 ∷ pairs_on true (pair l w ps) (125 ∷ r)) refl a.key_depth a.value_depth a.key_range a.value_range a.key_rises a.value_rises)
     (comma_there (pairs_on true (pair l w ps) (125 ∷ r))) (pair_items d h l w ps r a.rest_depth a.rest_range a.rest_rises)
 
-map_read : (d : ℕ) → AllRead d → (ps : Pairs) (r : List ℕ) → deepest_pair ps ≤ d → IsTrue (pairs_in_range ps) → IsTrue (pairs_rise ps)
+map_read : (d : ℕ) → AllRead d → (ps : Pairs) (r : List ℕ) → deepest_pair ps ≤ d → IsTrue (pairs_fit ps) → IsTrue (pairs_rise ps)
     → Row (PairOf (ReadsTerm d)) (codes "}") (pairs_on true ps (125 ∷ r)) (listed_pairs ps) r
 unfolding texts
 map_read d h no_pair r l f g = G.no_item (125 ∷ r) r (brace_closes r).closed
@@ -317,14 +318,14 @@ bits_read d bs r b = record {
   form = form_as d (60 ∷ 60 ∷ bits_on true bs (62 ∷ 62 ∷ r)) (T.bits (bits_in b.parts)) (T.bits bs) r (ap T.bits b.bits) (G.bit_string (bits_on true bs (62 ∷ 62 ∷ r)) r b.parts b.read b.whole);
 }
 
-term_form : (d : ℕ) → AllRead d → (t : Term) → depth t ≤ suc d → IsTrue (in_range t) → IsTrue (maps_rise t) → (r : List ℕ) → Ends r → Read d (term_on t r) t r
-unfolding texts depths in_range maps_rise
+term_form : (d : ℕ) → AllRead d → (t : Term) → depth t ≤ suc d → IsTrue (fits t) → IsTrue (maps_rise t) → (r : List ℕ) → Ends r → Read d (term_on t r) t r
+unfolding texts depths maps_rise
 term_form d h (T.int z) l f g r e = let i = integer_read z r e f in record { solid = i.0; form = G.integer (integer_on z r) r z i.1 }
 term_form d h (T.atom a) l f g r e = let n = name_read a r e in record { solid = n.0; form = G.atom (atom_text a ++ r) r a n.1 }
 term_form d h T.nil l f g r e = record { solid = solid 91 (93 ∷ r) refl refl; form = G.nil (93 ∷ r) r (bracket_closes r).closed }
 term_form d h (T.cons x y) l f g r e =
     cons_read d h x y r
-    (list_read d h x y r (omega (arith, l)) (omega (arith, l)) (left_true (in_range x) (in_range y) f) (right_true (in_range x) (in_range y) f) (left_true (maps_rise x) (maps_rise y) g) (right_true (maps_rise x) (maps_rise y) g))
+    (list_read d h x y r (omega (arith, l)) (omega (arith, l)) (left_true (fits x) (fits y) f) (right_true (fits x) (fits y) f) (left_true (maps_rise x) (maps_rise y) g) (right_true (maps_rise x) (maps_rise y) g))
 term_form d h (T.tuple ts) l f g r e = record {
   solid = solid 123 (row_on true ts (125 ∷ r)) refl refl;
   form = form_as d (123 ∷ row_on true ts (125 ∷ r)) (T.tuple (terms (listed ts))) (T.tuple ts) r (ap T.tuple (terms-listed ts))
@@ -337,13 +338,13 @@ term_form d h (T.map ps) l f g r e = record {
 }
 term_form d h (T.bits bs) l f g r e = bits_read d bs r (bits_row bs r)
 term_form d h (T.fun m s a ts) l f g r e =
-    let small = left_true (ltb s (2 ^ 32) && ltb a (2 ^ 32)) (all_in_range ts) f in
+    let small = left_true (ltb s (2 ^ 32) && ltb a (2 ^ 32)) (all_fit ts) f in
     record {
       solid = solid 35 (codes "Fun<" ++ (atom_text m ++ (44 ∷ decimal_on s (44 ∷ decimal_on a (44 ∷ 91 ∷ row_on true ts (93 ∷ 62 ∷ r)))))) refl refl;
       form = form_as d (codes "#Fun<" ++ (atom_text m ++ (44 ∷ decimal_on s (44 ∷ decimal_on a (44 ∷ 91 ∷ row_on true ts (93 ∷ 62 ∷ r)))))) (T.fun m s a (terms (listed ts))) (T.fun m s a ts) r (ap (T.fun m s a) (terms-listed ts))
           (G.local_fun (atom_text m ++ (44 ∷ decimal_on s (44 ∷ decimal_on a (44 ∷ 91 ∷ row_on true ts (93 ∷ 62 ∷ r))))) (row_on true ts (93 ∷ 62 ∷ r)) (62 ∷ r) r (head_of m s a) (listed ts)
           (head_there m s a (row_on true ts (93 ∷ 62 ∷ r)) (left_true (ltb s (2 ^ 32)) (ltb a (2 ^ 32)) small) (right_true (ltb s (2 ^ 32)) (ltb a (2 ^ 32)) small))
-          (row_read d 93 h ts (62 ∷ r) (bracket_closes (62 ∷ r)) (omega (arith, l)) (right_true (ltb s (2 ^ 32) && ltb a (2 ^ 32)) (all_in_range ts) f) g) (mark_there r).2);
+          (row_read d 93 h ts (62 ∷ r) (bracket_closes (62 ∷ r)) (omega (arith, l)) (right_true (ltb s (2 ^ 32) && ltb a (2 ^ 32)) (all_fit ts) f) g) (mark_there r).2);
     }
 term_form d h (T.extern m n a) l f g r e = record {
   solid = solid 102 (117 ∷ 110 ∷ 32 ∷ (atom_text m ++ (58 ∷ (atom_text n ++ (47 ∷ decimal_on a r))))) refl refl;
@@ -367,10 +368,10 @@ pub all_read : (d : ℕ) → AllRead d
 all_read zero t l f g r e = absurd (omega (arith, l, not_flat t))
 all_read (suc d) t l f g r e = reads d (term_on t r) t r (term_form d (all_read d) t l f g r e)
 
-pub printed_is_read : (t : Term) (r : List ℕ) → depth t ≤ 2100 → IsTrue (in_range t) → IsTrue (maps_rise t) → Ends r → ReadsTerm 2100 (term_on t r) t r
+pub printed_is_read : (t : Term) (r : List ℕ) → depth t ≤ 2100 → IsTrue (fits t) → IsTrue (maps_rise t) → Ends r → ReadsTerm 2100 (term_on t r) t r
 printed_is_read t r l f g e = all_read 2100 t l f g r e
 
-pub printed_is_text : (bytes : List ℕ) (t : Term) → IsUtf8 bytes → chars bytes ≡ printed t → depth t ≤ 2100 → IsTrue (in_range t) → IsTrue (maps_rise t) → IsTermText bytes t
+pub printed_is_text : (bytes : List ℕ) (t : Term) → IsUtf8 bytes → chars bytes ≡ printed t → depth t ≤ 2100 → IsTrue (fits t) → IsTrue (maps_rise t) → IsTermText bytes t
 unfolding behind_blanks
 printed_is_text bytes t u e l f g = record {
   utf8 = u;

@@ -11,7 +11,7 @@ use Rattle.erl_term.specs.WellFormed.{Layout, layout, layout_step, pair_layout_s
 use Rattle.erl_term.specs.Comparing.{row, pair_row, AllNormal, PairsNormal}
 use Rattle.erl_term.proofs.Forms.{laid, view_as, layout-out, left_true, right_true, both_true}
 use Rattle.term_read.specs.TermGrammar.{code_point}
-use Rattle.term_read.specs.WellRead.{AreWellFormed, IsPairWellFormed, PairsWellFormed, parts_rise}
+use Rattle.erl_term.specs.WellRows.{AreWellFormed, IsPairWellFormed, PairsWellFormed, parts_rise}
 
 -- One more at the end.
 

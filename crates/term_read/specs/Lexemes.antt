@@ -2,9 +2,9 @@
 -- long as they can be. Each function gives what stands at the front, and the characters that are left behind it.
 use Rattle.std.specs.Prelude.{ℕ, ℤ, pos, negsuc, neg_ℤ, ◌-◌, ◌^◌, ◌==◌, ◌||◌, nat_le, nat_lt, List, [], ◌∷◌, Bool, true, false, not, length, drop, take_while, Option, Some, None, if◌then◌else◌, codes}
 use Rattle.erl_base.specs.Names.{Name, same_name}
-use Rattle.core_chars.specs.Characters.{is_digit, is_sign, first_is, value_from}
+use Rattle.core_chars.specs.Characters.{is_lower, is_digit, is_sign, first_is, value_from}
 use Rattle.core_chars.specs.Quoted.{quoted_text}
-use Rattle.term_text.specs.Atoms.{is_small, is_name_character}
+use Rattle.term_text.specs.Atoms.{is_name_character}
 
 infixl 10 ◌>>=◌
 abbrev pub ◌>>=◌ : {A B : Type 0} → Option A → (A → Option B) → Option B
@@ -40,7 +40,7 @@ run_of test cs = (take_while test cs, drop (length (take_while test cs)) cs)
 
 -- a word: a small letter, and all name characters behind it
 abbrev pub word_front : List ℕ → Option (Name × List ℕ)
-word_front cs = if first_is is_small cs then Some (run_of is_name_character cs) else None
+word_front cs = if first_is is_lower cs then Some (run_of is_name_character cs) else None
 
 -- the text between two quotes, its escapes read
 abbrev pub unquoted : Option (List ℕ × ℕ) → List ℕ → Option (List ℕ × List ℕ)

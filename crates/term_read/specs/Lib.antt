@@ -1,7 +1,6 @@
 pub mod Lexemes
 pub mod TermGrammar
-pub mod WellRead
-pub mod Merging
+pub mod BitParts
 pub mod Reading
 pub mod WholeText
 pub mod Printed

@@ -5,11 +5,11 @@ use Rattle.std.specs.List.{list_all}
 use Rattle.erl_base.specs.Names.{Name, same_name}
 use Rattle.erl_term.specs.Term as T
 use Rattle.erl_term.specs.Term.{Term, no_pair}
-use Rattle.erl_term.specs.Terms.{terms, list_of}
+use Rattle.erl_term.specs.Terms.{terms, list_of, put_all}
 use Rattle.erl_term.specs.BitString.{byte_bits}
-use Rattle.term_text.specs.Atoms.{is_small}
+use Rattle.core_chars.specs.Characters.{is_lower}
 use Rattle.term_read.specs.Lexemes.{◌>>=◌, behind_blanks, behind_mark, mark_at, word_front, quoted_rest, integer_front}
-use Rattle.term_read.specs.TermGrammar.{part_at, whole_before_last, bits_in, number_in, extern_rest, fun_head, class_in, code_point, string_fits, is_byte, put_all, most_nesting}
+use Rattle.term_read.specs.TermGrammar.{part_at, whole_before_last, bits_in, number_in, extern_rest, fun_head, class_in, code_point, string_fits, is_byte, most_nesting}
 use Rattle.term_read.specs.declared.unread.Unread.{Unread}
 use Rattle.term_read.specs.declared.unread.Unread.TheVariants.{Syntax, NoMemory}
 
@@ -116,7 +116,7 @@ leaf_by d (c ∷ cs) =
     if c == 60 then angle_by cs
     else if c == 34 then string_by d cs
     else if c == 39 then quoted_by cs
-    else if is_small c then word_by (c ∷ cs)
+    else if is_lower c then word_by (c ∷ cs)
     else integer_by (c ∷ cs)
 
 unfoldable pub form_by : (d : ℕ) → (List ℕ → Option (Term × List ℕ)) → List ℕ → Option (Term × List ℕ)

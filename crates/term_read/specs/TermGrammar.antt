@@ -4,7 +4,7 @@ use Rattle.std.specs.List.{list_all}
 use Rattle.erl_base.specs.Names.{Name, same_name}
 use Rattle.erl_term.specs.Term as T
 use Rattle.erl_term.specs.Term.{Term, Terms, Pairs, no_pair, Class, error, exit, throw}
-use Rattle.erl_term.specs.Terms.{terms, list_of, put}
+use Rattle.erl_term.specs.Terms.{terms, list_of, put_all}
 use Rattle.erl_term.specs.BitString.{bits_of, byte_bits}
 use Rattle.term_read.specs.declared.flat.FunHead.{FunHead}
 use Rattle.term_read.specs.declared.flat.Part.{Part}
@@ -30,11 +30,6 @@ pub data ListEnd (R : List ℕ → Term → List ℕ → Type 0) : List ℕ → 
 -- a key and its value
 pub data PairOf (R : List ℕ → Term → List ℕ → Type 0) : List ℕ → Term × Term → List ℕ → Type 0 where
   key_and_value : (cs ds es fs : List ℕ) (k v : Term) → R cs k ds → mark_at (codes "=>") ds ≡ Some es → R es v fs → PairOf R cs (k, v) fs
-
--- pairs put into a map in order: the later of two with equal keys wins
-abbrev pub put_all : List (Term × Term) → Pairs → Pairs
-put_all [] ps = ps
-put_all (q ∷ qs) ps = put_all qs (put q.0 q.1 ps)
 
 -- Parts of bit strings.
 

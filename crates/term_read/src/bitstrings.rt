@@ -6,7 +6,7 @@ ghost use Rattle.erl_term.specs.View.{view, bits_view};
 ghost use Rattle.erl_term.specs.WellFormed.{IsFull, IsWellFormed};
 ghost use Rattle.term_read.specs.TermGrammar.{part_at, whole_before_last, bits_in, is_byte};
 ghost use Rattle.term_read.specs.Reading.{Gives, items_of, row_of, part_row, byte_text, bits_by, angle_by};
-ghost use Rattle.term_read.specs.WellRead.{AreParts};
+ghost use Rattle.term_read.specs.BitParts.{AreParts};
 
 use crate::flat::{Part, part_at};
 use crate::lexemes::{behind_blanks, behind_mark, expect, mark_at, quoted_rest};

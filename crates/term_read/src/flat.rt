@@ -5,7 +5,7 @@ ghost use Rattle.erl_term.specs.WellFormed.{IsWellFormed};
 ghost use Rattle.term_read.specs.TermGrammar.{class_named, class_in, extern_rest, fun_head, number_in, of_size, part_at};
 ghost use Rattle.term_read.specs.Lexemes.{number_at};
 ghost use Rattle.term_read.specs.Reading.{Gives};
-ghost use Rattle.term_read.specs.WellRead.{is_part};
+ghost use Rattle.term_read.specs.BitParts.{is_part};
 
 use crate::lexemes::{behind_blanks, expect, mark_at, name_at, number_at, word_front};
 use crate::unread::Unread;

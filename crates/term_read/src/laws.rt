@@ -5,7 +5,8 @@ ghost use Rattle.erl_term.specs.WellFormed.{maps_rise};
 ghost use Rattle.term_text.specs.TermText.{term_on, printed};
 ghost use Rattle.term_read.specs.TermGrammar.{ReadsTerm, IsTermText, most_nesting};
 ghost use Rattle.term_read.specs.Reading.{read_by};
-ghost use Rattle.term_read.specs.Printed.{Ends, in_range};
+ghost use Rattle.term_read.specs.Printed.{Ends};
+ghost use Rattle.erl_term.specs.Ranges.{fits};
 
 /// A text has at most one term.
 pub fn text_has_one_term()
@@ -15,10 +16,10 @@ pub fn text_has_one_term()
 /// The printed text of a term is read again, whatever follows it that goes on neither a word nor a number: for terms with
 /// the program's numbers, nested at most 2,100 deep, whose maps have rising keys. So its bytes are a text of the term.
 pub fn printed_terms_are_read()
-    ensures characters { (t : Plain.Term) (r : List ℕ) → depth t ≤ most_nesting → IsTrue (in_range t) → IsTrue (maps_rise t) → Ends r
+    ensures characters { (t : Plain.Term) (r : List ℕ) → depth t ≤ most_nesting → IsTrue (fits t) → IsTrue (maps_rise t) → Ends r
         → ReadsTerm most_nesting (term_on t r) t r }
     ensures bytes { (bytes : List ℕ) (t : Plain.Term) → IsUtf8 bytes → chars bytes ≡ printed t
-        → depth t ≤ most_nesting → IsTrue (in_range t) → IsTrue (maps_rise t) → IsTermText bytes t }
+        → depth t ≤ most_nesting → IsTrue (fits t) → IsTrue (maps_rise t) → IsTermText bytes t }
 {}
 
 /// The functions that the reader's calls equal read the texts of terms, and nothing else.

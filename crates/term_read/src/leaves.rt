@@ -5,7 +5,7 @@ ghost use Rattle.erl_term.specs.Terms.{terms};
 ghost use Rattle.erl_term.specs.View.{view};
 ghost use Rattle.erl_term.specs.WellFormed.{IsWellFormed};
 ghost use Rattle.term_read.specs.TermGrammar.{string_fits};
-ghost use Rattle.term_read.specs.WellRead.{AreWellFormed};
+ghost use Rattle.erl_term.specs.WellRows.{AreWellFormed};
 ghost use Rattle.term_read.specs.Reading.{Gives, identifier_by, leaf_by, string_by, quoted_by, word_by, integer_by, marked_by, trace_by};
 
 use crate::bitstrings::bits_form;
@@ -13,11 +13,10 @@ use crate::flat::{FunHead, class_in, extern_rest, number_in};
 use crate::lexemes::{behind_mark, integer_front, is_fun, quoted_rest, word_front};
 use crate::lists::code_points;
 use crate::unread::Unread;
-use core_chars::name_of;
+use core_chars::{is_lower, name_of};
 use erl_base::SiteId;
 use erl_term::{Term, Terms};
 use std::alloc::Global;
-use term_text::is_small;
 
 /// More than any number of a pid, a reference or a port.
 const WHOLE: u128 = 18446744073709551616;
@@ -41,7 +40,7 @@ pub(crate) fn leaf(cs: &[char], alloc: Global, depth: u32) -> Result<(Term, &[ch
     if *first == '\'' {
         return quoted_form(later, alloc);
     }
-    if is_small(*first) {
+    if is_lower(*first) {
         return word_form(cs, alloc);
     }
     integer_form(cs)

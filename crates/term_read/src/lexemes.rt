@@ -7,10 +7,12 @@ ghost use Rattle.term_read.specs.Lexemes.{is_blank, behind_blanks, behind_mark, 
 ghost use Rattle.term_read.specs.Reading.{Gives};
 
 use crate::unread::Unread;
-use core_chars::{digits_len, is_digit, is_sign, magnitude_of, name_of, negative, quoted_text};
+use core_chars::{
+    digits_len, is_digit, is_lower, is_sign, magnitude_of, name_of, negative, quoted_text,
+};
 use erl_base::Name;
 use std::alloc::Global;
-use term_text::{is_name_character, is_same, is_small};
+use term_text::{is_name_character, is_same};
 
 /// The greatest magnitude of a negative integer.
 const MOST: u128 = 170141183460469231731687303715884105728;
@@ -92,7 +94,7 @@ pub(crate) fn word_front(cs: &[char]) -> Option<(&[char], &[char])>
     ensures value { option_map (λ word. (word.0.now, word.1.now)) result ≡ word_front cs.now }
     ensures fits { IfSome result (λ word. length word.1.now < length cs.now) }
 {
-    if cs.is_empty() || !is_small(cs[0]) {
+    if cs.is_empty() || !is_lower(cs[0]) {
         return None;
     }
     let size = name_len(cs);

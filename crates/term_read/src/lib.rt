@@ -18,7 +18,6 @@ mod laws;
 mod leaves;
 mod lexemes;
 mod lists;
-mod maps;
 mod read;
 mod reader;
 #[cfg(test)]

@@ -5,7 +5,7 @@ ghost use Rattle.erl_term.specs.Terms.{list_of};
 ghost use Rattle.erl_term.specs.View.{view};
 ghost use Rattle.erl_term.specs.WellFormed.{IsWellFormed, layout};
 ghost use Rattle.term_read.specs.TermGrammar.{code_point};
-ghost use Rattle.term_read.specs.WellRead.{AreWellFormed};
+ghost use Rattle.erl_term.specs.WellRows.{AreWellFormed};
 
 use erl_base::{Boxed, List, NoMemory};
 use erl_term::{Term, Terms};

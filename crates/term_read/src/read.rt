@@ -3,16 +3,15 @@ ghost use Rattle.std.specs.Prelude.{◌≡◌, ◌<◌, ◌≤◌, map, length, 
 ghost use Rattle.erl_term.specs.View.{view, pair_view};
 ghost use Rattle.erl_term.specs.WellFormed.{IsWellFormed};
 ghost use Rattle.term_read.specs.Reading.{Gives, read_by, form_by, list_by, list_end, tuple_by, map_by, fun_by, hash_by, pair_by, items_of, row_of};
-ghost use Rattle.term_read.specs.WellRead.{AreWellFormed, PairsWellFormed, IsPairWellFormed};
+ghost use Rattle.erl_term.specs.WellRows.{AreWellFormed, PairsWellFormed, IsPairWellFormed};
 
 use crate::flat::fun_head;
 use crate::leaves::{fun_of, identifier, leaf};
 use crate::lexemes::{behind_blanks, behind_mark, expect, mark_at};
 use crate::lists::joined;
-use crate::maps::map_of;
 use crate::unread::Unread;
 use erl_base::List;
-use erl_term::{Pair, Pairs, Term, Terms};
+use erl_term::{Pair, Pairs, Term, Terms, map_of};
 use std::alloc::Global;
 
 /// A term behind blanks that nests at most `depth` deep.

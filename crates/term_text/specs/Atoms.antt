@@ -3,6 +3,7 @@ use Rattle.std.specs.Prelude.{ℕ, List, [], ◌∷◌, ◌++◌, Bool, false, n
 use Rattle.std.specs.List.{list_all, list_any}
 use Rattle.std.specs.Fmt.{digits}
 use Rattle.erl_base.specs.Names.{Name, same_name}
+use Rattle.core_chars.specs.Characters.{is_lower, is_upper, is_digit}
 
 -- words that an atom may not be without quotes
 abbrev pub kept_words : List Name
@@ -12,16 +13,9 @@ kept_words =
     ∷ codes "fun" ∷ codes "if" ∷ codes "let" ∷ codes "maybe" ∷ codes "not" ∷ codes "of" ∷ codes "or" ∷ codes "orelse"
     ∷ codes "receive" ∷ codes "rem" ∷ codes "try" ∷ codes "when" ∷ codes "xor" ∷ []
 
-abbrev pub is_within : ℕ → ℕ → ℕ → Bool
-is_within low high c = nat_le low c && nat_le c high
-
--- a to z
-abbrev pub is_small : ℕ → Bool
-is_small c = is_within 97 122 c
-
 -- ASCII letters, digits, `_` and `@`
 abbrev pub is_name_character : ℕ → Bool
-is_name_character c = is_small c || is_within 65 90 c || is_within 48 57 c || c == 95 || c == 64
+is_name_character c = is_lower c || is_upper c || is_digit c || c == 95 || c == 64
 
 abbrev pub is_kept : Name → Bool
 is_kept a = list_any (λ w. same_name w a) kept_words
@@ -29,7 +23,7 @@ is_kept a = list_any (λ w. same_name w a) kept_words
 -- an atom that is written without quotes: it begins with a small letter, goes on with name characters, and is no kept word
 abbrev pub is_plain_name : Name → Bool
 is_plain_name [] = false
-is_plain_name (c ∷ cs) = is_small c && list_all is_name_character cs && not (is_kept (c ∷ cs))
+is_plain_name (c ∷ cs) = is_lower c && list_all is_name_character cs && not (is_kept (c ∷ cs))
 
 -- a character between quotes: `\\`, `\'`, `\x{H}` in lower-case hexadecimal for control characters, or itself
 abbrev pub quoted_character : ℕ → List ℕ

@@ -1,10 +1,11 @@
 ghost use Rattle.std.specs.Prelude.{◌≡◌, ◌++◌, IfOk, OnOk};
 ghost use Rattle.std.specs.List.{list_all, list_any};
 ghost use Rattle.erl_base.specs.Names.{same_name};
-ghost use Rattle.term_text.specs.Atoms.{is_small, is_name_character, is_kept, is_plain_name, quoted_character, quoted_characters, atom_text};
+ghost use Rattle.term_text.specs.Atoms.{is_name_character, is_kept, is_plain_name, quoted_character, quoted_characters, atom_text};
 ghost use Rattle.term_text.specs.Printing.{Adds};
 
 use crate::bytes::{push_bytes, push_plain};
+use core_chars::{is_digit, is_lower, is_upper};
 use erl_base::{Name, NoMemory, Text};
 use std::alloc::Global;
 
@@ -41,7 +42,7 @@ pub fn is_plain_name(name: &[char]) -> bool
     match name {
         [] => false,
         [first, others @ ..] => {
-            is_small(*first) && are_name_characters(others) && !is_kept(name)
+            is_lower(*first) && are_name_characters(others) && !is_kept(name)
         }
     }
 }
@@ -52,18 +53,11 @@ fn are_name_characters(characters: &[char]) -> bool
     characters.iter().all(|c| is_name_character(*c))
 }
 
-/// Whether it is a to z.
-pub fn is_small(c: char) -> bool
-    ensures { result ≡ is_small c }
-{
-    c.is_ascii_lowercase()
-}
-
 /// Whether it is an ASCII letter, a digit, `_` or `@`.
 pub fn is_name_character(c: char) -> bool
     ensures { result ≡ is_name_character c }
 {
-    c.is_ascii_lowercase() || c.is_ascii_uppercase() || c.is_ascii_digit() || c == '_' || c == '@'
+    is_lower(c) || is_upper(c) || is_digit(c) || c == '_' || c == '@'
 }
 
 fn is_kept(name: &[char]) -> bool

@@ -12,6 +12,6 @@ mod bytes;
 mod numbers;
 mod write;
 
-pub use atoms::{is_name_character, is_plain_name, is_same, is_small, put_atom};
+pub use atoms::{is_name_character, is_plain_name, is_same, put_atom};
 pub use numbers::{put_integer, put_number, put_u32};
 pub use write::write_term;

@@ -2,6 +2,9 @@ pub mod World
 pub mod Run
 pub mod Meaning
 pub mod Requests
+pub mod RemoteCalls
+pub mod Entries
+pub mod References
 pub mod Receive
 pub mod MapUpdate
 pub mod View

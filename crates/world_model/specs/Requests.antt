@@ -21,12 +21,16 @@ replied r = elim r.how [
 abbrev pub call_out : Name → Name → Values → M Values
 call_out m f vs = ask (W.call m f vs) >>= replied
 
+-- the reason of a call with a term that it can not take
+abbrev pub badarg : Term
+badarg = word (codes "badarg")
+
 abbrev pub sent : Term → Reply → M Values
 sent message r = elim r.how [
   | W.return ↦ single message
-  | W.error ↦ fail T.error (word (codes "badarg"))
-  | W.exit ↦ fail T.error (word (codes "badarg"))
-  | W.throw ↦ fail T.error (word (codes "badarg"))
+  | W.error ↦ fail T.error badarg
+  | W.exit ↦ fail T.error badarg
+  | W.throw ↦ fail T.error badarg
 ]
 
 abbrev pub send_to : Term → Term → M Values

@@ -60,6 +60,12 @@ marks [] = []
 marks (marked x ∷ ns) = x ∷ marks ns
 marks (_ ∷ ns) = marks ns
 
+-- the sum of the sub-binaries that the trying of clauses may make
+abbrev pub sub_binaries : List Note → ℕ
+sub_binaries [] = 0
+sub_binaries (cut n ∷ ns) = n + sub_binaries ns
+sub_binaries (_ ∷ ns) = sub_binaries ns
+
 pub data Outcome (A : Type 0) : Type 0 where
   gives : A → Outcome A
   raises : Class → Term → Outcome A

@@ -2,7 +2,7 @@ use Rattle.std.proofs.Common.{◌≡◌, ◌≤◌, take}
 use Rattle.std.specs.Prelude.{IfOk}
 use Rattle.kernel_form.specs.declared.tree.KExpr.{size-KExpr}
 use Rattle.kernel_form.specs.declared.tree.Tree.{size-Tree}
-use Rattle.kernel_make.specs.Chains.{in_lets, in_nodes}
+use Rattle.kernel_form.specs.Chains.{in_lets, in_nodes}
 use Rattle.kernel_copy.proofs.copies.+copy.Given as goal
 
 abbrev pub invariant-copy_expr-loop-rest : goal.invariant-copy_expr-loop-rest

@@ -1,5 +1,5 @@
 use Rattle.std.proofs.Common.{◌≡◌, ◌≤◌, ◌+◌, ◌*◌, ◌++◌, map, drop}
-use Rattle.term_read.specs.WellRead.{AreParts}
+use Rattle.term_read.specs.BitParts.{AreParts}
 use Rattle.term_read.proofs.PartBits.{shifted, total}
 use Rattle.term_read.proofs.bitstrings.bits_of_parts.Given as goal
 

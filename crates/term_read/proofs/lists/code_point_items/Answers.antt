@@ -2,7 +2,7 @@ use Rattle.std.proofs.Common.{◌≡◌, ◌∙◌, sym, ap, subst, [], ◌∷�
 use Rattle.std.proofs.lemmas.List.{drop_more}
 use Rattle.erl_term.specs.View.{view}
 use Rattle.term_read.specs.TermGrammar.{code_point}
-use Rattle.term_read.specs.WellRead.{AreWellFormed}
+use Rattle.erl_term.specs.WellRows.{AreWellFormed}
 use Rattle.term_read.proofs.WellRows.{no_terms, code_point_step, term_pushed, number_pushed}
 use Rattle.term_read.proofs.lists.code_point_items.Goals as goal
 

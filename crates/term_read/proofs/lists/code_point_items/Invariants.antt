@@ -1,7 +1,7 @@
 use Rattle.std.proofs.Common.{◌≡◌, ◌++◌, map, drop, length}
 use Rattle.erl_term.specs.View.{view}
 use Rattle.term_read.specs.TermGrammar.{code_point}
-use Rattle.term_read.specs.WellRead.{AreWellFormed}
+use Rattle.erl_term.specs.WellRows.{AreWellFormed}
 use Rattle.term_read.proofs.lists.code_point_items.Given as goal
 
 abbrev pub invariant-loop-c : goal.invariant-loop-c

@@ -1,6 +1,6 @@
 use Rattle.std.proofs.Common.{◌≡◌, ◌∙◌, sym, ap, subst, [], map, Some, arith}
 use Rattle.erl_term.specs.View.{view}
-use Rattle.term_read.specs.WellRead.{AreWellFormed}
+use Rattle.erl_term.specs.WellRows.{AreWellFormed}
 use Rattle.term_read.specs.Reading.{items_of, read_by, pair_by}
 use Rattle.term_read.proofs.ItemRows.{before, before_none, loop_ended, loop_goes_on}
 use Rattle.term_read.proofs.WellRows.{term_pushed, views_pushed, no_terms, pair_pushed, pair_views_pushed}

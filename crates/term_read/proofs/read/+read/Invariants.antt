@@ -1,7 +1,7 @@
 use Rattle.std.proofs.Common.{◌≡◌, ◌≤◌, ◌+◌, ◌*◌, length, map}
 use Rattle.erl_term.specs.View.{view, pair_view}
 use Rattle.term_read.specs.Reading.{items_of, pair_by, read_by}
-use Rattle.term_read.specs.WellRead.{AreWellFormed, PairsWellFormed}
+use Rattle.erl_term.specs.WellRows.{AreWellFormed, PairsWellFormed}
 use Rattle.term_read.proofs.ItemRows.{before}
 use Rattle.term_read.proofs.read.+read.Given as goal
 

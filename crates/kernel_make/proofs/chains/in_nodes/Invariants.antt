@@ -1,9 +1,0 @@
-use Rattle.std.proofs.Common.{◌≡◌, length}
-use Rattle.kernel_make.specs.Chains.{in_nodes}
-use Rattle.kernel_make.proofs.chains.in_nodes.Given as goal
-
-abbrev pub invariant-loop-node : goal.invariant-loop-node
-invariant-loop-node l = in_nodes l.nodes l.tree ≡ in_nodes l.fn.nodes l.fn.tree
-
-abbrev pub decreases-loop-node : goal.decreases-loop-node
-decreases-loop-node l = length l.nodes

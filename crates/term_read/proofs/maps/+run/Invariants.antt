@@ -1,4 +1,0 @@
-use Rattle.term_read.proofs.maps.+run.Given as goal
-
-abbrev pub decreases-run : goal.decreases-run
-decreases-run l = l.count

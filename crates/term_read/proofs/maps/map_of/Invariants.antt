@@ -1,8 +1,0 @@
-use Rattle.std.proofs.Common.{◌≡◌, ◌++◌, length}
-use Rattle.term_read.proofs.maps.map_of.Given as goal
-
-abbrev pub invariant-loop-pair : goal.invariant-loop-pair
-invariant-loop-pair l = l.all ++ l.merged.items ≡ l.initial.merged.items
-
-abbrev pub decreases-loop-pair : goal.decreases-loop-pair
-decreases-loop-pair l = length l.merged.items
