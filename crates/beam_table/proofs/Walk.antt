@@ -9,14 +9,14 @@ use Rattle.bif_table.specs.Builtins.{lookup, Bif}
 use Rattle.bif_table.specs.BuiltinAnswer.{Answer, value, raised, answer}
 use Rattle.world_model.specs.World as W
 use Rattle.world_model.specs.Receive.{Timeout, now, in', wrong, new_or}
-use Rattle.world_model.specs.Requests.{is_send}
+use Rattle.world_model.specs.Requests.{badarg, is_send}
 use Rattle.world_model.specs.Run.{Entry, Outcome}
 use Rattle.world_model.specs.World.{taken, Request, Reply, Happening, Message, Delay, forever, millis}
 use Rattle.step_machine.specs.Frames.{MatchContext, is_tag, rest_of}
 use Rattle.step_machine.specs.Steps.{happened, entered, examined, sub_binary, goes, ends, bad, notes, asks}
 use Rattle.beam_table.specs.Code
 use Rattle.beam_table.specs.Binaries.{shape, number_shape, do_get_integer, if_context, if_position, context_in, write_sub, read_segments, or_no_match, starts, takes, takes_segment, creates}
-use Rattle.beam_table.specs.Calls.{badarg, below, never_returns, frame_unless, enters, function_at, do_call, do_call_only, replied, calls_out, sent, sends, sends_or_calls, answered, erlang_answers, answers_call, call_any, returns, do_call_ext, do_call_ext_only, do_send, do_make_fun, enters_fun, applies, do_call_fun, calls_named, do_apply}
+use Rattle.beam_table.specs.Calls.{below, never_returns, frame_unless, enters, function_at, do_call, do_call_only, replied, calls_out, sent, sends, sends_or_calls, answered, erlang_answers, answers_call, call_any, returns, do_call_ext, do_call_ext_only, do_send, do_make_fun, enters_fun, applies, do_call_fun, calls_named, do_apply}
 use Rattle.bif_table.specs.TermTests.{Comparison}
 use Rattle.beam_table.specs.Code.{Reg, x_reg, y_reg, Source, reg, Extern, Flags, Segment, Insn, label, func_info, move, swap, init_yregs, allocate, allocate_heap, deallocate, trim, test_heap, return, put_list, put_tuple2, make_fun3, put_map_assoc, put_map_exact, get_list, get_hd, get_tl, get_tuple_element, get_map_elements, has_map_fields, jump, test, compares, test_arity, is_tagged_tuple, select_val, select_tuple_arity, bif, gc_bif, call, call_only, call_last, call_ext, call_ext_only, call_ext_last, call_fun, apply, apply_last, send, build_stacktrace, raise, badmatch, case_end, try_case_end, if_end, try, catch, try_end, try_case, catch_end, loop_rec, remove_message, loop_rec_end, wait, wait_timeout, timeout, recv_marker_reserve, recv_marker_bind, recv_marker_use, recv_marker_clear, bs_start_match4, bs_get_integer2, bs_get_binary2, bs_skip_bits2, bs_test_tail2, bs_test_unit, bs_get_tail, bs_get_position, bs_set_position, bs_create_bin, AsmFun, AsmModule}
 use Rattle.beam_table.specs.Data.{do_init, do_allocate, drops, if_cons, if_tuple, if_map, read_pairs, write_all, firsts, seconds, put_in, do_put_map, all_or_jumps, do_get_elements}
@@ -25,7 +25,7 @@ use Rattle.beam_table.specs.Handlers.{do_tag, if_tag, ends_tag, do_try_case, if_
 use Rattle.beam_table.specs.Inbox.{Inbox, inbox, arrived, taken_out}
 use Rattle.beam_table.specs.InstructionStep.{act, step, step_at, past_labels}
 use Rattle.beam_table.specs.MachineState.{Kind, a_try, a_catch, Cell, unset, killed, term, context, position, marker, tag, Activation, Machine}
-use Rattle.beam_table.specs.Receives.{look_at, look_or, in_window, do_loop_rec, waits_for, waits_until, first_choice, use_marker, if_reference, if_marker, clears}
+use Rattle.beam_table.specs.Receives.{look_at, look_or, in_window, do_loop_rec, waits_for, waits_until, if_reference, if_marker}
 use Rattle.beam_table.specs.StepFacts.{Suffix, Deeper}
 use Rattle.beam_table.specs.Tests.{do_has_fields, do_compare, do_select, do_bif, do_gc_bif}
 
@@ -454,14 +454,6 @@ module _ (a : AsmModule) (cs : List Activation) (Q : Effect → Inbox → Type 0
   marker_q (marker n) k h = h n
   marker_q _ k h = qbad
 
-  use_marker_q : (o : Option ℕ) (r : ℕ) (m : Machine) → At m → Q (use_marker o r m) (inbox m)
-  use_marker_q None r m e = here _ e
-  use_marker_q (Some n) r m e = either_q (first_choice m.choices) _ _ (here _ e) (here _ e)
-
-  clears_q : (t : Term) (m : Machine) → At m → Q (clears t m) (inbox m)
-  clears_q (T.reference r) m e = here _ e
-  clears_q _ m e = here m e
-
   -- Bit strings.
 
   context_q : (m : Machine) (c : Reg) (k : ℕ → MatchContext → Effect) → ((n : ℕ) (w : MatchContext) → Q (k n w) (inbox m)) → Q (context_in m c k) (inbox m)
@@ -572,8 +564,8 @@ module _ (a : AsmModule) (cs : List Activation) (Q : Effect → Inbox → Type 0
   act_q timeout m e = outside_q m _ (here _ e)
   act_q (recv_marker_reserve d) m e = write_q m d _ _ e here
   act_q (recv_marker_bind d s) m e = reg_q m d _ λ c. marker_q c _ λ n. read_q m s _ λ t. reference_q t _ λ r. here _ e
-  act_q (recv_marker_use s) m e = outside_q m _ (read_q m s _ λ t. reference_q t _ λ r. use_marker_q _ r m e)
-  act_q (recv_marker_clear s) m e = read_q m s _ λ t. clears_q t m e
+  act_q (recv_marker_use s) m e = outside_q m _ (read_q m s _ λ t. reference_q t _ λ r. here _ e)
+  act_q (recv_marker_clear s) m e = read_q m s _ λ t. here _ e
   act_q (bs_start_match4 o n s d) m e = collects_q n m _ e λ u f. cell_q u s _ λ c. starts_q o c d u f
   act_q (bs_get_integer2 l n c s w z d) m e = get_integer_q l n c s w z d m e
   act_q (bs_get_binary2 l n c s w z d) m e = collects_q n m (λ u. takes_segment a (shape true s w z) l c s u λ bs v. write_sub v d bs) e λ u f. takes_segment_q (shape true s w z) l c s u _ f λ bs v g. write_sub_q v d bs g

@@ -3,19 +3,16 @@ use Rattle.std.specs.Prelude.{ℕ, suc, ◌+◌, ◌-◌, List, [], ◌∷◌, �
 use Rattle.erl_base.specs.Names.{Name, same_name}
 use Rattle.erl_term.specs.Term as T
 use Rattle.erl_term.specs.Term.{Term, none, more}
-use Rattle.erl_term.specs.Terms.{terms, listed, word, tagged, list_of}
+use Rattle.erl_term.specs.Terms.{terms, listed, tagged, list_of}
 use Rattle.bif_table.specs.Builtins.{lookup, raises_always}
 use Rattle.bif_table.specs.BuiltinAnswer.{Answer, value, raised, answer}
 use Rattle.world_model.specs.World as W
-use Rattle.world_model.specs.Requests.{is_send}
+use Rattle.world_model.specs.Requests.{badarg, is_send}
 use Rattle.world_model.specs.World.{Reply}
 use Rattle.step_machine.specs.Steps.{goes, notes, entered}
 use Rattle.beam_table.specs.Code.{Reg, x_reg, Source, reg, Extern, AsmFun, AsmModule}
 use Rattle.beam_table.specs.MachineState.{Cell, Machine, unset}
 use Rattle.beam_table.specs.GeneralRules.{Effect, needs, in_frame, no_frame, if_some, if_term, read, read_all, arguments, cells, outside_window, write_term, alone, leaves, builds, entry_at, raising, asking, returns_to}
-
-abbrev pub badarg : Term
-badarg = word (codes "badarg")
 
 -- the running activation waits above the one that comes
 abbrev pub below : Machine → Machine

@@ -2,6 +2,7 @@
 use Rattle.std.specs.Prelude.{ℕ, List, Bool, Option}
 use Rattle.erl_term.specs.Term.{Term}
 use Rattle.world_model.specs.World.{Message}
+use Rattle.world_model.specs.References.{Bound}
 use Rattle.step_machine.specs.Frames.{MatchContext}
 use Rattle.beam_table.specs.Code.{Insn}
 
@@ -32,8 +33,8 @@ pub record Machine : Type 0 where
   -- how many messages stand before the save place, and the one that is looked at
   pub save : ℕ
   pub window : Option Message
-  -- references with the serial numbers that they are bound to
-  pub markers : List (ℕ × ℕ)
+  -- what is bound by receive markers, and the choices left
+  pub markers : List Bound
   pub choices : List Bool
   pub code : List Insn
   pub landing : Option Kind

@@ -3,7 +3,7 @@ use Rattle.std.specs.Prelude.{ℕ, ◌^◌, List, [], ◌∷◌, ◌++◌, lengt
 use Rattle.beam_table.specs.Code as C
 use Rattle.beam_table.specs.Code.{Reg, x_reg, y_reg, Source, reg, Insn, func_info, bif, gc_bif, call_ext, call_ext_only, call_ext_last}
 use Rattle.erl_term.specs.WellFormed.{maps_rise}
-use Rattle.beam_table.specs.TextRange.{in_signed, fits}
+use Rattle.erl_term.specs.Ranges.{is_within_128, fits}
 use Rattle.bif_table.specs.Builtins.{is_guard, is_collecting, arity_of}
 use Rattle.beam_table.specs.Operands.{Operand, Operands, operands, source, register, own_label, entry_label, label_or_zero, label_or_no_fail, x_slot, y_slot, live, arity, site, unit, amount, extfunc, items, list, end, ◌then◌}
 
@@ -16,7 +16,7 @@ register_ok (y_reg n) = ltb n (2 ^ 24)
 unfoldable pub source_ok : Source → Bool
 unfolding maps_rise
 source_ok (reg r) = register_ok r
-source_ok (C.integer z) = in_signed z
+source_ok (C.integer z) = is_within_128 z
 source_ok (C.literal t) = maps_rise t && fits t
 source_ok _ = true
 

@@ -4,7 +4,7 @@ use Rattle.std.specs.Prelude.{ℕ, List, [], ◌∷◌, Bool, true, false, Optio
 use Rattle.erl_base.specs.Names.{Name}
 use Rattle.bif_table.specs.Builtins.{name_of}
 use Rattle.beam_table.specs.Code.{Reg, Source, Extern, Flags, Segment, Insn, func_info, move, swap, init_yregs, allocate, allocate_heap, deallocate, trim, test_heap, return, put_list, put_tuple2, make_fun3, put_map_assoc, put_map_exact, get_list, get_hd, get_tl, get_tuple_element, get_map_elements, has_map_fields, jump, test, compares, test_arity, is_tagged_tuple, select_val, select_tuple_arity, bif, gc_bif, call, call_only, call_last, call_ext, call_ext_only, call_ext_last, call_fun, apply, apply_last, send, build_stacktrace, raise, badmatch, case_end, try_case_end, if_end, try, catch, try_end, try_case, catch_end, loop_rec, remove_message, loop_rec_end, wait, wait_timeout, timeout, recv_marker_reserve, recv_marker_bind, recv_marker_use, recv_marker_clear, bs_start_match4, bs_get_integer2, bs_get_binary2, bs_skip_bits2, bs_test_tail2, bs_test_unit, bs_get_tail, bs_get_position, bs_set_position, bs_create_bin}
-use Rattle.beam_table.specs.OperandWords.{type_word, comparison_word}
+use Rattle.bif_table.specs.TermTests.{type_name, comparison_name}
 
 mutual
   pub data Operand : Type 0 where
@@ -83,8 +83,8 @@ operands (get_tuple_element s n d) = (codes "get_tuple_element", source s then a
 operands (get_map_elements l s ps) = (codes "get_map_elements", own_label l then source s then list (each (λ p r. source p.0 then register p.1 then r) ps) then end)
 operands (has_map_fields l s ss) = tested (codes "has_map_fields") (own_label l then source s then list (sources ss) then end)
 operands (jump l) = (codes "jump", own_label l then end)
-operands (test t l s) = tested (type_word t) (own_label l then items (source s then end) then end)
-operands (compares t l r s) = tested (comparison_word t) (own_label l then items (source r then source s then end) then end)
+operands (test t l s) = tested (type_name t) (own_label l then items (source s then end) then end)
+operands (compares t l r s) = tested (comparison_name t) (own_label l then items (source r then source s then end) then end)
 operands (test_arity l s n) = tested (codes "test_arity") (own_label l then items (source s then amount n then end) then end)
 operands (is_tagged_tuple l s n a) = tested (codes "is_tagged_tuple") (own_label l then items (source s then amount n then atom_operand a then end) then end)
 operands (select_val s l cs) = (codes "select_val", source s then own_label l then list (each (λ c r. source c.0 then own_label c.1 then r) cs) then end)

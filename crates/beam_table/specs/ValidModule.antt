@@ -1,11 +1,12 @@
 -- The conditions of a valid module: what a module of an assembly text meets.
-use Rattle.std.specs.Prelude.{ℕ, List, [], ◌∷◌, ◌++◌, map, Bool, true, false, not, ◌&&◌, ◌||◌, eqb, leb, IsTrue}
+use Rattle.std.specs.Prelude.{ℕ, List, [], ◌∷◌, ◌++◌, map, Bool, true, false, not, ◌&&◌, ◌||◌, leb, IsTrue}
+use Rattle.erl_base.specs.Lists.{among}
 use Rattle.erl_base.specs.Names.{Name, same_key}
 use Rattle.erl_base.specs.declared.ids.FunKey.{FunKey}
 use Rattle.erl_term.specs.Term.{Term}
 use Rattle.beam_table.specs.Code.{Insn, label, AsmFun, AsmModule}
 use Rattle.erl_term.specs.WellFormed.{maps_rise}
-use Rattle.beam_table.specs.TextRange.{fits}
+use Rattle.erl_term.specs.Ranges.{fits}
 use Rattle.beam_table.specs.Operands.{operands}
 use Rattle.beam_table.specs.OperandBounds.{label_ok, insn_ok, all_own_labels, entry_labels}
 
@@ -13,13 +14,9 @@ abbrev pub every : {A : Type 0} → (A → Bool) → List A → Bool
 every f [] = true
 every f (a ∷ as') = f a && every f as'
 
-abbrev pub is_among : ℕ → List ℕ → Bool
-is_among l [] = false
-is_among l (j ∷ js) = eqb l j || is_among l js
-
 abbrev pub distinct : List ℕ → Bool
 distinct [] = true
-distinct (l ∷ ls) = not (is_among l ls) && distinct ls
+distinct (l ∷ ls) = not (among l ls) && distinct ls
 
 abbrev pub labels_in : List Insn → List ℕ
 labels_in [] = []
@@ -37,10 +34,10 @@ abbrev pub entries_of : List AsmFun → List ℕ
 entries_of fs = map (λ f. f.entry) fs
 
 abbrev pub names_own : List ℕ → Insn → Bool
-names_own ls i = every (λ l. is_among l ls) (all_own_labels (operands i).1)
+names_own ls i = every (λ l. among l ls) (all_own_labels (operands i).1)
 
 abbrev pub names_entries : List ℕ → Insn → Bool
-names_entries es i = every (λ l. is_among l es) (entry_labels (operands i).1)
+names_entries es i = every (λ l. among l es) (entry_labels (operands i).1)
 
 unfoldable pub fun_ok : List ℕ → AsmFun → Bool
 unfolding insn_ok

@@ -1,5 +1,5 @@
 -- The tests of the machine that ask about terms alone (Erlang/OTP 25, genop.tab: the tests named `is_..`).
-use Rattle.std.specs.Prelude.{ℕ, suc, Bool, false, not, ◌&&◌, eqb, pos}
+use Rattle.std.specs.Prelude.{ℕ, suc, Bool, false, not, ◌&&◌, eqb, pos, codes}
 use Rattle.erl_base.specs.Names.{Name, same_name}
 use Rattle.erl_term.specs.Term as T
 use Rattle.erl_term.specs.Term.{Term, more}
@@ -54,3 +54,31 @@ compare_holds is_function2 t u = is_fun_of_arity t u
 abbrev pub is_tagged : ℕ → Name → Term → Bool
 is_tagged n a (T.tuple (more (T.atom b) ts)) = eqb n (suc (count ts)) && same_name a b
 is_tagged n a _ = false
+
+-- the name of a test in the machine's text
+abbrev pub type_name : TypeTest → Name
+type_name is_atom = codes "is_atom"
+type_name is_integer = codes "is_integer"
+type_name is_number = codes "is_number"
+type_name is_list = codes "is_list"
+type_name is_nonempty_list = codes "is_nonempty_list"
+type_name is_nil = codes "is_nil"
+type_name is_tuple = codes "is_tuple"
+type_name is_binary = codes "is_binary"
+type_name is_bitstr = codes "is_bitstr"
+type_name is_boolean = codes "is_boolean"
+type_name is_function = codes "is_function"
+type_name is_map = codes "is_map"
+type_name is_pid = codes "is_pid"
+type_name is_port = codes "is_port"
+type_name is_reference = codes "is_reference"
+
+-- and that of a comparison
+abbrev pub comparison_name : Comparison → Name
+comparison_name is_eq_exact = codes "is_eq_exact"
+comparison_name is_ne_exact = codes "is_ne_exact"
+comparison_name is_eq = codes "is_eq"
+comparison_name is_ne = codes "is_ne"
+comparison_name is_lt = codes "is_lt"
+comparison_name is_ge = codes "is_ge"
+comparison_name is_function2 = codes "is_function2"

@@ -1,9 +1,10 @@
 -- How liveness goes over a set.
 use Rattle.std.proofs.Common.{◌≡◌, ◌<◌, ◌⊎◌, inl, inr, ⊎_elim, ℕ, zero, suc, List, [], ◌∷◌, ◌++◌, length, Bool, true, false, ◌||◌, Option, Some, None, refl, sym, ap, subst, ◌∙◌, arith, eqb, IsTrue, IsFalse, if◌then◌else◌}
 use Rattle.std.proofs.lemmas.Bool.{eqb-true}
+use Rattle.erl_base.specs.Lists.{among}
 use Rattle.ssa_form.specs.Ssa.{FrameAction, Set, Last, Block, Body, block_at}
 use Rattle.ssa_form.specs.Storage.{Handler, Mode, tests}
-use Rattle.ssa_form.specs.SetFacts.{arg_vars, given_vars, among, is_tests, may_raise}
+use Rattle.ssa_form.specs.SetFacts.{arg_vars, given_vars, is_tests, may_raise}
 use Rattle.ssa_form.specs.Flow.{Point, next, set_from, set_in, set_at, last_in, last_at, after_op, setting, Effect, Step, passes, leads, succeeds, fails, raises}
 use Rattle.ssa_form.specs.Liveness.{used_at, set_vars, end_vars, LiveFrom, used, by_phi, later, LiveBeforeSet}
 

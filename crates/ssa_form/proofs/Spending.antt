@@ -13,11 +13,11 @@ use Rattle.world_model.specs.Run.{State, Entry, entered, Outcome, gives, raises,
 use Rattle.world_model.specs.Meaning.{single}
 use Rattle.world_model.specs.MapUpdate.{Put, put_each, put_all}
 use Rattle.world_model.specs.Requests.{replied, call_out, sent, send_to, answers, is_send, send_or_call}
+use Rattle.world_model.specs.Entries.{entry_left}
 use Rattle.world_model.specs.RemoteCalls.{call_erlang, call_terms, apply_term, raise_again}
-use Rattle.step_machine.specs.Bodies.{Here, entry_left, calling}
+use Rattle.step_machine.specs.Bodies.{Here, calling, callees}
 use Rattle.step_machine.specs.EntryBound.{Lowers}
 use Rattle.ssa_form.specs.Storage.{Around}
-use Rattle.ssa_form.specs.Values.{callees}
 use Rattle.ssa_form.specs.SetFacts.{never_raises}
 
 -- What a meaning uses up: an entry, or a reply, or nothing.
@@ -146,7 +146,7 @@ module _ (around : Around) (here : Here) (lowers : Lowers here.enter) where
   pub call_spends : (n : ℕ) (t : Bool) (vs : Values) → Spends (calling here n t vs >>= single)
   call_spends n t vs = bind_spends (calling here n t vs) single (record { at = λ s. entry_uses s.left _ n vs s refl }) (λ a. give_spends _)
 
-  pub applied_spends : (t : Term) (vs : Values) → Spends (apply_term (callees around here) t vs)
+  pub applied_spends : (t : Term) (vs : Values) → Spends (apply_term (callees around.arities here) t vs)
   applied_spends (T.fun m s a cs) vs = if_spends _ _ _ (fail_spends _ _) (if_spends _ _ _ (call_spends s false (vs ++ listed cs)) (call_out_spends _ _ _))
   applied_spends (T.extern m f a) vs = if_spends _ _ _ (fail_spends _ _) (call_out_spends _ _ _)
   applied_spends t vs = fail_spends _ _

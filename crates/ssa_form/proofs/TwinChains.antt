@@ -1,6 +1,7 @@
 -- Two runs of a chain whose variables are alike where the way has set them: they do the same.
 use Rattle.std.proofs.Common.{◌≡◌, ◌⊎◌, inl, inr, ⊎_elim, ℕ, zero, suc, ◌+◌, List, [], ◌∷◌, ◌++◌, length, Bool, true, false, not, ◌&&◌, ◌||◌, Option, Some, None, refl, sym, ap, subst, ◌∙◌, arith, eqb, IsTrue, IsFalse, if◌then◌else◌, slice_get}
 use Rattle.std.proofs.lemmas.Bool.{eqb-true, eq-eqb}
+use Rattle.erl_base.specs.Lists.{among}
 use Rattle.erl_term.specs.Term.{Term, Class}
 use Rattle.world_model.specs.World.{Message}
 use Rattle.world_model.specs.Run.{State, Outcome}
@@ -10,7 +11,7 @@ use Rattle.step_machine.specs.Frames.{MatchContext}
 use Rattle.ssa_form.specs.Ssa as Ssa
 use Rattle.ssa_form.specs.Ssa.{Arg, var, lit, Op, FrameAction, Set, Last, Block, Body, block_at, or_none}
 use Rattle.ssa_form.specs.Storage.{Held, term, Handler, Frame, After, on, pick, up, over, Mode, tests, Around, go_on}
-use Rattle.ssa_form.specs.SetFacts.{arg_vars, dst_vars, given_vars, gives_nothing, is_try_start, among, all_among, none_among, names_handler, may_raise, is_tests}
+use Rattle.ssa_form.specs.SetFacts.{arg_vars, dst_vars, given_vars, gives_nothing, is_try_start, all_among, none_among, names_handler, may_raise, is_tests}
 use Rattle.ssa_form.specs.Flow.{Point, point, set_from, set_in, set_at, last_at, after_op, setting, Way, goes, passes}
 use Rattle.ssa_form.specs.Liveness.{set_vars, end_vars, value_vars}
 use Rattle.ssa_form.specs.WellFormed.{WellFormed, tests_nothing, chain_tags, tags_in}

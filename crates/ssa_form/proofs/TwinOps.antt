@@ -14,13 +14,13 @@ use Rattle.world_model.specs.Meaning.{single}
 use Rattle.world_model.specs.MapUpdate.{put_all}
 use Rattle.world_model.specs.RemoteCalls.{takes, apply_term, raise_again}
 use Rattle.world_model.specs.Receive.{Timeout, now, in', wrong, timeout_of}
-use Rattle.step_machine.specs.Bodies.{Here}
+use Rattle.step_machine.specs.Bodies.{Here, callees}
 use Rattle.step_machine.specs.Frames.{MatchContext, rest_of}
 use Rattle.ssa_form.specs.Ssa as Ssa
 use Rattle.ssa_form.specs.Ssa.{Arg, var, lit, Op}
 use Rattle.ssa_form.specs.Checks.{holds}
 use Rattle.ssa_form.specs.Storage.{Held, unset, term, context, position, marker, Handler, Leaving, calls, ends_body, always_raises, Frame, After, on, pick, up, over, Mode, plain, tail, jump, tests, Around, go_on, when, if_some, outside}
-use Rattle.ssa_form.specs.Values.{terms_of, handed, raises_always, callees, puts_of, parts_of, is_tail}
+use Rattle.ssa_form.specs.Values.{terms_of, handed, raises_always, puts_of, parts_of, is_tail}
 use Rattle.ssa_form.specs.SetFacts.{gives_nothing, is_try_start, names_handler}
 use Rattle.ssa_form.specs.SsaRun.{Vars, in_vars, no_handlers, only_if, without_first, with_handlers}
 use Rattle.ssa_form.specs.Operations.{put, collected, gives_held, asked, found, answers, leaving, follows, ends_with, calls_by, leaving_of, local_does, remote_does, fun_does, send_does, raise_does, cons_does, map_does, option_held, key_does, element_does, cell_does, fun_made, start_does, with_context, at_context, took, takes_segment, restore_does, open_does, close_does, seen, seen_or, looks, peek_does, take_does, skip_does, waited, waits_for, wait_does, bind_does, use_does, on_terms, does}
@@ -173,7 +173,7 @@ module _ (around : Around) (here : Here) (V W : ℕ → Held) (d : Option ℕ) (
     remote_both m (t ∷ []) c s = both_bad
 
     fun_both : (vs : Values) (c : List MatchContext) (s : State) → B (fun_does in_vars around here d vs (one V c) s) (fun_does in_vars around here d vs (one W c) s)
-    fun_both (t ∷ vs) c s = calls_both plain calls (apply_term (callees around here) t vs) c s
+    fun_both (t ∷ vs) c s = calls_both plain calls (apply_term (callees around.arities here) t vs) c s
     fun_both [] c s = both_bad
 
     send_both : (m : Mode) (vs : Values) (c : List MatchContext) (s : State) → B (send_does in_vars around here m d vs (one V c) s) (send_does in_vars around here m d vs (one W c) s)

@@ -1,6 +1,7 @@
 -- Two runs of a well-formed body whose variables are alike where the way has set them: they end alike.
 use Rattle.std.proofs.Common.{◌≡◌, ⊎_elim, ℕ, zero, suc, List, [], ◌∷◌, ◌++◌, length, append_assoc, Contains, Bool, true, false, ◌&&◌, ◌||◌, Option, Some, None, refl, sym, ap, subst, ◌∙◌, eqb, IsTrue, IsFalse, if◌then◌else◌, codes}
 use Rattle.std.proofs.lemmas.Bool.{eq-eqb}
+use Rattle.erl_base.specs.Lists.{among}
 use Rattle.erl_term.specs.Term as T
 use Rattle.erl_term.specs.Term.{Term, Class}
 use Rattle.erl_term.specs.Terms.{class_word, tagged}
@@ -14,7 +15,7 @@ use Rattle.step_machine.specs.EntryBound.{Lowers}
 use Rattle.step_machine.specs.Frames.{MatchContext}
 use Rattle.ssa_form.specs.Ssa.{Arg, Set, Last, br, succeeded, switch, ret, Phi, Block, Body, block_at}
 use Rattle.ssa_form.specs.Storage.{Held, unset, term, context, position, marker, Handler, Frame, After, over, Ended, Around, go_on, when, if_some}
-use Rattle.ssa_form.specs.SetFacts.{arg_vars, given_vars, among, all_among, none_among}
+use Rattle.ssa_form.specs.SetFacts.{arg_vars, given_vars, all_among, none_among}
 use Rattle.ssa_form.specs.Flow.{point, set_at, last_in, last_at, last_of, targets, phis_at, phi_vars, edge_vars, phi_reads, after_op, entering, Way, goes, begins, Step, leads, succeeds, fails, raises}
 use Rattle.ssa_form.specs.Liveness.{set_vars, end_vars, last_vars, value_vars}
 use Rattle.ssa_form.specs.WellFormed.{WellFormed, tests_nothing, tags_in}

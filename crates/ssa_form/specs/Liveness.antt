@@ -1,9 +1,10 @@
 -- Where a variable's value is needed, and its live interval.
 use Rattle.std.specs.Prelude.{◌≡◌, ◌≤◌, ◌↔◌, ◌⊎◌, ℕ, suc, ◌+◌, List, [], ◌∷◌, ◌++◌, Contains, IsTrue, IsFalse, Bool, true, false, Option, Some, None, if◌then◌else◌}
+use Rattle.erl_base.specs.Lists.{among}
 use Rattle.ssa_form.specs.Ssa.{Set, Last, br, succeeded, switch, ret, Body}
 use Rattle.ssa_form.specs.Storage.{Handler, Mode}
 use Rattle.ssa_form.specs.SsaRun.{is_landing, is_catch_end}
-use Rattle.ssa_form.specs.SetFacts.{arg_vars, given_vars, among, names_handler, is_tests, may_raise, unsets_registers}
+use Rattle.ssa_form.specs.SetFacts.{arg_vars, given_vars, names_handler, is_tests, may_raise, unsets_registers}
 use Rattle.ssa_form.specs.Flow.{Point, point, next, set_at, last_at, phis_at, phi_vars, after_op, Effect, Step, Reached}
 
 abbrev pub last_vars : Last → List ℕ

@@ -17,14 +17,14 @@ use Rattle.world_model.specs.Receive.{Timeout, now, in', wrong, timeout_of, with
 use Rattle.world_model.specs.References.{Standing, after_note, standing, place_of}
 use Rattle.world_model.specs.RemoteCalls.{takes, call_terms, apply_term, raise_again}
 use Rattle.world_model.specs.Requests.{badarg, send_to}
-use Rattle.step_machine.specs.Bodies.{Here, calling}
+use Rattle.step_machine.specs.Bodies.{Here, calling, callees}
 use Rattle.step_machine.specs.Frames.{MatchContext, moved, rest_of}
 use Rattle.ssa_form.specs.Ssa as Ssa
 use Rattle.ssa_form.specs.Ssa.{Arg, var, lit, Op}
 use Rattle.bif_table.specs.TermTests.{compare_holds}
 use Rattle.ssa_form.specs.Checks.{holds, has_keys}
 use Rattle.ssa_form.specs.Storage.{Held, unset, term, context, position, marker, Leaving, calls, ends_body, always_raises, Storage, Frame, After, on, pick, up, over, bad, Mode, plain, tail, jump, tests, Around, in_window, go_on, when, if_some, outside, inside, kept}
-use Rattle.ssa_form.specs.Values.{terms_of, handed, raises_always, callees, puts_of, parts_of, is_tail}
+use Rattle.ssa_form.specs.Values.{terms_of, handed, raises_always, puts_of, parts_of, is_tail}
 
 module _ {S : Type 0} (o : Storage S) (around : Around) (here : Here) where
   abbrev pub held : Frame S → Arg → Held
@@ -106,7 +106,7 @@ module _ {S : Type 0} (o : Storage S) (around : Around) (here : Here) where
   remote_does mode dst _ f s = bad
 
   abbrev pub fun_does : Option ℕ → Values → Frame S → State → After S
-  fun_does dst (t ∷ vs) f s = calls_by plain calls dst (apply_term (callees around here) t vs) f s
+  fun_does dst (t ∷ vs) f s = calls_by plain calls dst (apply_term (callees around.arities here) t vs) f s
   fun_does dst [] f s = bad
 
   abbrev pub send_does : Mode → Option ℕ → Values → Frame S → State → After S

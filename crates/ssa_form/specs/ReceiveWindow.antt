@@ -1,8 +1,9 @@
 -- Receive windows: from a look that found a message up to the operation that takes or skips it.
 use Rattle.std.specs.Prelude.{◌≡◌, ◌≤◌, ℕ, List, length, Contains, IsTrue, IsFalse, Bool, false, ◌||◌, Option, Some, None}
+use Rattle.erl_base.specs.Lists.{among}
 use Rattle.ssa_form.specs.Ssa.{Set, succeeded, Body, block_at}
 use Rattle.ssa_form.specs.Storage.{Handler, Mode, tests}
-use Rattle.ssa_form.specs.SetFacts.{among, is_peek, ends_window, may_raise, may_ask}
+use Rattle.ssa_form.specs.SetFacts.{is_peek, ends_window, may_raise, may_ask}
 use Rattle.ssa_form.specs.Flow.{Point, point, set_at, last_of, phis_at, phi_vars, Effect, Step, Reached, Leads}
 use Rattle.ssa_form.specs.Liveness.{Across}
 

@@ -1,5 +1,6 @@
 -- Laws of the runs of bodies.
 use Rattle.std.specs.Prelude.{◌≡◌, ◌≢◌, ◌≤◌, ℕ, List, [], Option, if◌then◌else◌}
+use Rattle.erl_base.specs.Lists.{among}
 use Rattle.world_model.specs.Run.{State, Outcome}
 use Rattle.erl_term.specs.Term.{Term}
 use Rattle.erl_term.specs.Terms.{Values}
@@ -9,7 +10,6 @@ use Rattle.step_machine.specs.Frames.{MatchContext}
 use Rattle.ssa_form.specs.Ssa.{Body}
 use Rattle.ssa_form.specs.Storage.{Held, Storage, Around, Frame, Ended, done, unfinished}
 use Rattle.ssa_form.specs.SsaRun.{Raised, blocks, body_run, in_vars, params_hold, ssa_run, Gives}
-use Rattle.ssa_form.specs.SetFacts.{among}
 use Rattle.ssa_form.specs.PlacedRun.{Placed, placed_run}
 use Rattle.ssa_form.specs.FramedRun.{Framed, framed_run}
 use Rattle.ssa_form.specs.WellFormed.{CycleRule, WellFormed}

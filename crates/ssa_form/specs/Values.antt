@@ -6,13 +6,9 @@ use Rattle.erl_term.specs.Term.{Term}
 use Rattle.erl_term.specs.Terms.{Values}
 use Rattle.erl_term.specs.Segments.{Shape, built, joined}
 use Rattle.bif_table.specs.Builtins as B
-use Rattle.world_model.specs.Run.{◌>>=◌}
-use Rattle.world_model.specs.Meaning.{single}
 use Rattle.world_model.specs.MapUpdate.{Put}
-use Rattle.world_model.specs.RemoteCalls.{Callees}
-use Rattle.step_machine.specs.Bodies.{Here, calling}
 use Rattle.step_machine.specs.Frames.{MatchContext, rest_of}
-use Rattle.ssa_form.specs.Storage.{Held, term, context, Around, Mode, tail}
+use Rattle.ssa_form.specs.Storage.{Held, term, context, Mode, tail}
 
 abbrev pub is_tail : Mode → Bool
 is_tail tail = true
@@ -64,21 +60,11 @@ handed_from i ends cs reached n (h ∷ hs) =
 abbrev pub handed : Bool → List MatchContext → List (ℕ × ℕ) → ℕ → List Held → Option Values
 handed ends cs reached n hs = handed_from 0 ends cs reached n hs
 
--- Calls of any module's functions and of terms.
-
 -- a function of the module erlang that always raises
 abbrev pub raises_always : Term → Term → ℕ → Bool
 raises_always (T.atom m) (T.atom f) n =
     same_name m (codes "erlang") && B.raises_always f n
 raises_always _ _ n = false
-
--- what a call of a fun sees of this module
-abbrev pub callees : Around → Here → Callees
-callees around here = record {
-  name = here.name;
-  parameters = slice_get around.arities;
-  enter = λ s vs. calling here s false vs >>= single;
-}
 
 -- Operands in groups: keys with values, values with sizes.
 

@@ -1,10 +1,11 @@
 -- Well-formed bodies.
 use Rattle.std.specs.Prelude.{◌≡◌, ◌≢◌, ℕ, List, [], ◌∷◌, ◌++◌, Some, None, Option, IsTrue, IsFalse, Bool, true, false, not, ◌&&◌, ◌||◌, eqb, leb, length, if◌then◌else◌, slice_get}
+use Rattle.erl_base.specs.Lists.{among}
 use Rattle.ssa_form.specs.Ssa.{Arg, Op, try_end, landing, catch_end, call_local, Set, Last, succeeded, ret, Phi, Block, Body, block_at}
 use Rattle.ssa_form.specs.Storage.{Handler, Mode}
 use Rattle.ssa_form.specs.SsaRun.{reads_tag, from_edge, lands, ends_catch}
 use Rattle.world_model.specs.RemoteCalls.{takes}
-use Rattle.ssa_form.specs.SetFacts.{dst_vars, among, all_among, none_among, in_form, breaks_cycle, is_peek, is_try_start, may_raise}
+use Rattle.ssa_form.specs.SetFacts.{dst_vars, all_among, none_among, in_form, breaks_cycle, is_peek, is_try_start, may_raise}
 use Rattle.ssa_form.specs.Flow.{Point, point, set_at, last_at, phis_at, phi_vars, Effect, Step, Way, Reached, Leads, Passing}
 use Rattle.ssa_form.specs.Liveness.{used_at, values_at, lands_first}
 use Rattle.ssa_form.specs.ReceiveWindow.{WindowRule}
