@@ -5,7 +5,7 @@ use Rattle.erl_term.specs.Term.{Term, Class}
 use Rattle.world_model.specs.Run.{Entry, raises}
 use Rattle.world_model.specs.World.{Reply, asked}
 use Rattle.step_machine.specs.Frames.{rest_of}
-use Rattle.step_machine.specs.Steps.{Note, happened, entered, examined, sub_binary, goes, ends, bad, notes, asks, Ran, perform, run, sites}
+use Rattle.step_machine.specs.Steps.{Event, happened, entered, examined, sub_binary, goes, ends, bad, notes, asks, Ran, perform, run, sites}
 use Rattle.beam_table.specs.StepFacts.{Entered, Fine, ByEvents, Untagged, RaiseUnwinds}
 use Rattle.beam_table.proofs.Walk.{step_q}
 use Rattle.beam_table.specs.Binaries.{starts, takes_segment, number_shape, shape, write_sub, context_in, read_segments, creates}
@@ -25,15 +25,15 @@ step_fine a m = step_q a m.callers (λ s w. Fine m.callers s) (λ w. tt) (λ w o
 pub step_by_events : (a : AsmModule) (m : Machine) → ByEvents (inbox m) (step a m)
 step_by_events a m = step_q a m.callers (λ s w. ByEvents w s) (λ w. tt) (λ w o. tt) (λ u s. refl) (λ e u d. refl) (λ n u w s e. e) (λ w n s q. q) (λ w s q. q) (λ w q f h. h) m refl
 
-module _ (f : Machine → List Reply → List Note → Ran) (k : ℕ) (bound : (m : Machine) (rs : List Reply) (log : List Note) → length (sites (f m rs log).log) ≤ k + length (sites log)) where
-  entered_bound : (cs : List Activation) (e : Entry) (s : Effect) → Entered cs e s → (rs : List Reply) (log : List Note) → length (sites (perform s f rs log).log) ≤ k + length (sites log)
+module _ (f : Machine → List Reply → List Event → Ran) (k : ℕ) (bound : (m : Machine) (rs : List Reply) (log : List Event) → length (sites (f m rs log).log) ≤ k + length (sites log)) where
+  entered_bound : (cs : List Activation) (e : Entry) (s : Effect) → Entered cs e s → (rs : List Reply) (log : List Event) → length (sites (perform s f rs log).log) ≤ k + length (sites log)
   entered_bound cs e (goes u) h rs log = bound u rs log
   entered_bound cs e (ends o) h rs log = absurd h
   entered_bound cs e bad h rs log = absurd h
   entered_bound cs e (notes n s) h rs log = absurd h
   entered_bound cs e (asks q g) h rs log = absurd h
 
-  perform_bound : (cs : List Activation) (s : Effect) → Fine cs s → (rs : List Reply) (log : List Note) → length (sites (perform s f rs log).log) ≤ suc k + length (sites log)
+  perform_bound : (cs : List Activation) (s : Effect) → Fine cs s → (rs : List Reply) (log : List Event) → length (sites (perform s f rs log).log) ≤ suc k + length (sites log)
   perform_bound cs (goes u) h rs log = omega (arith, bound u rs log)
   perform_bound cs (ends o) h rs log = omega arith
   perform_bound cs bad h rs log = omega arith
@@ -45,7 +45,7 @@ module _ (f : Machine → List Reply → List Note → Ran) (k : ℕ) (bound : (
   perform_bound cs (asks q g) h (r ∷ rs) log = perform_bound cs (g r) (h r) rs (happened (asked q r) ∷ log)
 
 -- k steps enter at most k functions
-pub entries_bound : (a : AsmModule) (k : ℕ) (m : Machine) (rs : List Reply) (log : List Note) → length (sites (run (step a) k m rs log).log) ≤ k + length (sites log)
+pub entries_bound : (a : AsmModule) (k : ℕ) (m : Machine) (rs : List Reply) (log : List Event) → length (sites (run (step a) k m rs log).log) ≤ k + length (sites log)
 unfolding run
 entries_bound a zero m rs log = omega arith
 entries_bound a (suc k) m rs log = perform_bound (run (step a) k) k (entries_bound a k) m.callers (step a m) (step_fine a m) rs log

@@ -3,7 +3,7 @@ use Rattle.std.specs.Prelude.{ℕ, suc, [], slice_get, Option, Some, None, codes
 use Rattle.erl_term.specs.Term as T
 use Rattle.erl_term.specs.Term.{Term}
 use Rattle.erl_term.specs.Terms.{word}
-use Rattle.world_model.specs.References.{Standing, serial_of, unbound, bound_to, used, place_of}
+use Rattle.world_model.specs.References.{Standing, serial_of, unbound, bound_to, used, save_place}
 use Rattle.world_model.specs.World as W
 use Rattle.world_model.specs.Receive.{Timeout, now, in', wrong, timeout_of, without, new_or}
 use Rattle.world_model.specs.World.{Delay, forever, millis, Message, taken}
@@ -74,7 +74,7 @@ module _ (a : AsmModule) where
 
 -- a receive begins that waits for a reference: the save place goes behind the messages that it passes over
 abbrev pub begins : Standing → Machine → Machine
-begins a m = record m { markers = a.bound; choices = a.choices; save = place_of a.low m.mailbox }
+begins a m = record m { markers = a.bound; choices = a.choices; save = save_place a.low m.mailbox }
 
 -- a reference is wanted
 abbrev pub if_reference : Term → (ℕ → Effect) → Effect

@@ -3,7 +3,7 @@ use Rattle.std.specs.Prelude.{◌≡◌, ◌≤◌, ◌+◌, ◌⊎◌, ℕ, Lis
 use Rattle.erl_term.specs.Term.{Term, Class}
 use Rattle.world_model.specs.World.{Reply, taken, asked}
 use Rattle.world_model.specs.Run.{Entry, raises}
-use Rattle.step_machine.specs.Steps.{Note, happened, entered, examined, sub_binary, goes, ends, bad, notes, asks, run, sites}
+use Rattle.step_machine.specs.Steps.{Event, happened, entered, examined, sub_binary, goes, ends, bad, notes, asks, run, sites}
 use Rattle.beam_table.specs.Code as C
 use Rattle.beam_table.specs.Code.{AsmModule}
 use Rattle.beam_table.specs.MachineState.{Kind, Activation, Machine}
@@ -73,7 +73,7 @@ pub record LocalCallsEnterOne (a : AsmModule) : Type 0 where
 
 -- k steps enter at most k functions
 abbrev pub StepsEnterAtMostOne : AsmModule → Type 0
-StepsEnterAtMostOne a = (k : ℕ) (m : Machine) (rs : List Reply) (log : List Note) → length (sites (run (step a) k m rs log).log) ≤ k + length (sites log)
+StepsEnterAtMostOne a = (k : ℕ) (m : Machine) (rs : List Reply) (log : List Event) → length (sites (run (step a) k m rs log).log) ≤ k + length (sites log)
 
 -- a raise drops the activations without a tag up to the first that has one, and goes on at its lowest tag;
 -- without a tag the run ends with it

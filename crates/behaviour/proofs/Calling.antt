@@ -35,7 +35,7 @@ module _ (a : AsmModule) (own : Term) (l s : ℕ) (f : AsmFun) (vs : Values) (fo
   entry_is : (above : List Activation) (m : Machine) → AtEntry a s vs above (record m { xs = cells vs; frame = None; callers = above; code = f.code })
   entry_is above m = record { function = f; found = function_is; arity = arity_is; code = refl; xs = refl; frame = refl; callers = refl }
 
-  module _ (d : ℕ) (here : Here) (all : RealizesAll (target a own) d here.enter) (above : List Activation) (rest : List Insn) (m : Machine) (rs : List Reply) (log : List Steps.Note) (st : State) (le : st.left ≤ d)
+  module _ (d : ℕ) (here : Here) (all : RealizesAll (target a own) d here.enter) (above : List Activation) (rest : List Insn) (m : Machine) (rs : List Reply) (log : List Steps.Event) (st : State) (le : st.left ≤ d)
       (w : Matches (target a own) st m rs log) where
     only_step : (let u = ready (call_only (length vs) l ∷ rest) (cells vs) None above m in
         step a u ≡ notes (Steps.entered (record { site = s; tail = true })) (goes (record u { xs = cells vs; frame = None; code = f.code; room = 0 })))
@@ -71,7 +71,7 @@ module _ (a : AsmModule) (own : Term) (l s : ℕ) (f : AsmFun) (vs : Values) (fo
 
       -- what comes after the call goes on with its value alone in x0; a raise goes further up, where the frame has no tag
       pub call_realizes : (after : Term → M Term) → tag_of (Some ys) ≡ None →
-          ((t : Term) (s' : State) (u : Machine) (rs1 : List Reply) (log1 : List Steps.Note) → Matches (target a own) s' u rs1 log1 → Realizes (target a own) above (resumed u t) rs1 log1 (after t s')) →
+          ((t : Term) (s' : State) (u : Machine) (rs1 : List Reply) (log1 : List Steps.Event) → Matches (target a own) s' u rs1 log1 → Realizes (target a own) above (resumed u t) rs1 log1 (after t s')) →
           Realizes (target a own) above (ready (call (length vs) l ∷ rest) (cells vs) (Some ys) above m) rs log (going_on (calling here s false vs st) after)
       call_realizes after none next =
           realizes_then (target a own) above (waiting ∷ above) _ rs log (calling here s false vs st) after resumed called

@@ -7,7 +7,7 @@ use Rattle.world_model.specs.World.{Script}
 use Rattle.world_model.specs.Run.{State, Outcome, give}
 use Rattle.core_form.specs.Core.{Module}
 use Rattle.core_form.specs.Sites.{module_scope, inner_sites, def_count, module_sites}
-use Rattle.core_meaning.specs.Calls.{Activation}
+use Rattle.core_meaning.specs.Calls.{Invocation}
 use Rattle.core_meaning.specs.CoreRun as E
 use Rattle.core_meaning.specs.CoreRun.{Known, apart_of, run_site, deep, known, known_export, site_named, ended, evaluated}
 use Rattle.step_machine.specs.Steps.{Ran, run}
@@ -30,7 +30,7 @@ every_at p (y ∷ ys) x e (zero, l, q) = subst (λ z. p z ≡ true) q (and_true 
 every_at p (y ∷ ys) x e (suc k, l, q) = every_at p ys x (and_true (p y) (every p ys) e).1 (k, omega (arith, l), q)
 
 -- entering a function does what its site does
-deep_gives : (m : Known) (d n : ℕ) (vs : Values) (t : Term) → ((here : Activation) → run_site here (slice_get m.sites n) vs ≡ give t) → deep m (suc d) n vs ≡ give t
+deep_gives : (m : Known) (d n : ℕ) (vs : Values) (t : Term) → ((here : Invocation) → run_site here (slice_get m.sites n) vs ≡ give t) → deep m (suc d) n vs ≡ give t
 unfolding deep
 deep_gives m d n vs t h = h (record {
   name = m.name;
@@ -56,7 +56,7 @@ module _ (m : Module) (hs : List PlainFun) (w : IsPlainModule m hs) (f : FunKey)
       ap site_named (found_scope m.defs hs f found.0 found.1 0 [] plain w.distinct found.2)
       ∙ omega arith
 
-  site_gives : (here : Activation) → run_site here (slice_get (module_sites m) found.0) vs ≡ give value.0
+  site_gives : (here : Invocation) → run_site here (slice_get (module_sites m) found.0) vs ≡ give value.0
   site_gives here =
       let g = module_scope m.defs 0 [] in
       found_site m.defs hs f found.0 found.1 g (def_count m.defs) (inner_sites m.defs g (def_count m.defs)) vs value.0 plain found.2 value.1 here

@@ -9,7 +9,7 @@ use Rattle.world_model.specs.Run.{State, Outcome, gives, raises, waits, spent, M
 use Rattle.world_model.specs.World.{Reply}
 use Rattle.world_model.specs.Entries.{entry_left}
 use Rattle.step_machine.specs.Bodies.{Here, Bodies, entered_deep, calling}
-use Rattle.step_machine.specs.Steps.{Note, Stepped, goes, ends, notes, ran, unfinished, perform, run, sites}
+use Rattle.step_machine.specs.Steps.{Event, Stepped, goes, ends, notes, ran, unfinished, perform, run, sites}
 use Rattle.behaviour.specs.Realizes.{Target, Matches, Comes, To, Stands, Realizes, RealizesAll, BodiesRealized}
 use Rattle.step_machine.specs.Steps.{up}
 use Rattle.step_machine.specs.EntryBound.{Lowers}
@@ -30,14 +30,14 @@ module _ (t : Target) where
   up-suc (suc i) k = ap suc (up-suc i k)
 
   -- a step to another state, before what that one comes to
-  pub step_comes : (m m' : t.state) (rs : List Reply) (log : List Note) (x : Stepped t.state) (rs' : List Reply) (log' : List Note) (n : Note) → t.step m ≡ notes n (goes m') → Comes t m' rs (n ∷ log) x rs' log' → Comes t m rs log x rs' log'
+  pub step_comes : (m m' : t.state) (rs : List Reply) (log : List Event) (x : Stepped t.state) (rs' : List Reply) (log' : List Event) (n : Event) → t.step m ≡ notes n (goes m') → Comes t m' rs (n ∷ log) x rs' log' → Comes t m rs log x rs' log'
   unfolding run
   step_comes m m' rs log x rs' log' n e c = record {
     steps = suc c.steps;
     then_same = λ k. ap (λ y. perform y (run t.step (up c.steps (suc k))) rs log) e ∙ c.then_same k;
   }
 
-  pub step_to : (m m' : t.state) (rs : List Reply) (log : List Note) (s : State) (x : t.state → Stepped t.state) (n : Note) → t.step m ≡ notes n (goes m') → To t m' rs (n ∷ log) s x → To t m rs log s x
+  pub step_to : (m m' : t.state) (rs : List Reply) (log : List Event) (s : State) (x : t.state → Stepped t.state) (n : Event) → t.step m ≡ notes n (goes m') → To t m' rs (n ∷ log) s x → To t m rs log s x
   step_to m m' rs log s x n e w = record {
     state = w.state;
     rs' = w.rs';
@@ -46,7 +46,7 @@ module _ (t : Target) where
     comes = step_comes m m' rs log (x w.state) w.rs' w.log' n e w.comes;
   }
 
-  pub step_stands : (m m' : t.state) (rs : List Reply) (log : List Note) (s : State) (n : Note) → t.step m ≡ notes n (goes m') → Stands t m' rs (n ∷ log) s → Stands t m rs log s
+  pub step_stands : (m m' : t.state) (rs : List Reply) (log : List Event) (s : State) (n : Event) → t.step m ≡ notes n (goes m') → Stands t m' rs (n ∷ log) s → Stands t m rs log s
   unfolding run
   step_stands m m' rs log s n e w = record {
     steps = suc w.steps;
@@ -57,22 +57,22 @@ module _ (t : Target) where
     enters = ap (λ y. sites (perform y (run t.step (suc w.steps)) rs log).log) e ∙ w.enters;
   }
 
-  pub step_realizes : (a : t.above) (m m' : t.state) (rs : List Reply) (log : List Note) (r : State × Outcome Term) (n : Note) → t.step m ≡ notes n (goes m') → Realizes t a m' rs (n ∷ log) r → Realizes t a m rs log r
+  pub step_realizes : (a : t.above) (m m' : t.state) (rs : List Reply) (log : List Event) (r : State × Outcome Term) (n : Event) → t.step m ≡ notes n (goes m') → Realizes t a m' rs (n ∷ log) r → Realizes t a m rs log r
   step_realizes a m m' rs log (s, gives vs) n e w = step_to m m' rs log s (t.returns a vs) n e w
   step_realizes a m m' rs log (s, raises c r) n e w = step_to m m' rs log s (t.unwinds a c r) n e w
   step_realizes a m m' rs log (s, waits q) n e w = step_to m m' rs log s (λ _. ends (waits q)) n e w
   step_realizes a m m' rs log (s, spent) n e w = step_stands m m' rs log s n e w
 
   -- a call: a step that enters the function, which may be a tail entry though the meaning has none
-  pub call_enters : (d site : ℕ) (tail tail' : Bool) → (tail ≡ true → tail' ≡ true) → (here : Here) (vs : Values) (a : t.above) (m m' : t.state) (rs : List Reply) (log : List Note) (s : State) → RealizesAll t d here.enter → s.left ≤ d →
-      t.step m ≡ notes (Note.entered (record { site = site; tail = tail' })) (goes m') → t.at_entry site vs a m' →
+  pub call_enters : (d site : ℕ) (tail tail' : Bool) → (tail ≡ true → tail' ≡ true) → (here : Here) (vs : Values) (a : t.above) (m m' : t.state) (rs : List Reply) (log : List Event) (s : State) → RealizesAll t d here.enter → s.left ≤ d →
+      t.step m ≡ notes (Event.entered (record { site = site; tail = tail' })) (goes m') → t.at_entry site vs a m' →
       Matches t s m rs log → ((u : State) → t.holds u m → t.holds u m') → ((k : ℕ) (n : Run.Note) → t.holds s m → t.holds (record s { left = k; notes = n ∷ s.notes }) m) →
       Realizes t a m rs log (calling here site tail vs s)
   unfolding run
   call_enters d site tail tail' keeps here vs a m m' rs log s all l e at w same free = go s.left refl
     where
-      n : Note
-      n = Note.entered (record { site = site; tail = tail' })
+      n : Event
+      n = Event.entered (record { site = site; tail = tail' })
 
       go : (k : ℕ) → s.left ≡ k → Realizes t a m rs log (entry_left k (record { site = site; tail = tail }) (here.enter site vs) s)
       go zero p = record {
@@ -96,13 +96,13 @@ module _ (t : Target) where
       }))
 
   -- what a run comes to, before what that one comes to
-  pub comes_comes : (m m' : t.state) (rs rs1 rs2 : List Reply) (log log1 log2 : List Note) (x : Stepped t.state) → Comes t m rs log (goes m') rs1 log1 → Comes t m' rs1 log1 x rs2 log2 → Comes t m rs log x rs2 log2
+  pub comes_comes : (m m' : t.state) (rs rs1 rs2 : List Reply) (log log1 log2 : List Event) (x : Stepped t.state) → Comes t m rs log (goes m') rs1 log1 → Comes t m' rs1 log1 x rs2 log2 → Comes t m rs log x rs2 log2
   comes_comes m m' rs rs1 rs2 log log1 log2 x c e = record {
     steps = up c.steps (suc e.steps);
     then_same = λ k. ap (λ j. run t.step j m rs log) (sym (up-up c.steps (suc e.steps) (suc k))) ∙ c.then_same (up e.steps (suc k)) ∙ e.then_same k;
   }
 
-  pub comes_to : (m m' : t.state) (rs rs1 : List Reply) (log log1 : List Note) (s : State) (x : t.state → Stepped t.state) → Comes t m rs log (goes m') rs1 log1 → To t m' rs1 log1 s x → To t m rs log s x
+  pub comes_to : (m m' : t.state) (rs rs1 : List Reply) (log log1 : List Event) (s : State) (x : t.state → Stepped t.state) → Comes t m rs log (goes m') rs1 log1 → To t m' rs1 log1 s x → To t m rs log s x
   comes_to m m' rs rs1 log log1 s x c w = record {
     state = w.state;
     rs' = w.rs';
@@ -111,7 +111,7 @@ module _ (t : Target) where
     comes = comes_comes m m' rs rs1 w.rs' log log1 w.log' (x w.state) c w.comes;
   }
 
-  pub comes_stands : (m m' : t.state) (rs rs1 : List Reply) (log log1 : List Note) (s : State) → Comes t m rs log (goes m') rs1 log1 → Stands t m' rs1 log1 s → Stands t m rs log s
+  pub comes_stands : (m m' : t.state) (rs rs1 : List Reply) (log log1 : List Event) (s : State) → Comes t m rs log (goes m') rs1 log1 → Stands t m' rs1 log1 s → Stands t m rs log s
   comes_stands m m' rs rs1 log log1 s c w = record {
     steps = up c.steps (suc w.steps);
     log' = w.log';
@@ -121,18 +121,18 @@ module _ (t : Target) where
     enters = ap (λ j. sites (run t.step j m rs log).log) (sym (up-suc c.steps (suc w.steps))) ∙ ap (λ r. sites r.log) (c.then_same (suc w.steps)) ∙ w.enters;
   }
 
-  pub comes_realizes : (a : t.above) (m m' : t.state) (rs rs1 : List Reply) (log log1 : List Note) (r : State × Outcome Term) → Comes t m rs log (goes m') rs1 log1 → Realizes t a m' rs1 log1 r → Realizes t a m rs log r
+  pub comes_realizes : (a : t.above) (m m' : t.state) (rs rs1 : List Reply) (log log1 : List Event) (r : State × Outcome Term) → Comes t m rs log (goes m') rs1 log1 → Realizes t a m' rs1 log1 r → Realizes t a m rs log r
   comes_realizes a m m' rs rs1 log log1 (s, gives vs) c w = comes_to m m' rs rs1 log log1 s _ c w
   comes_realizes a m m' rs rs1 log log1 (s, raises k r) c w = comes_to m m' rs rs1 log log1 s _ c w
   comes_realizes a m m' rs rs1 log log1 (s, waits q) c w = comes_to m m' rs rs1 log log1 s _ c w
   comes_realizes a m m' rs rs1 log log1 (s, spent) c w = comes_stands m m' rs rs1 log log1 s c w
 
   -- a meaning and what follows it: the first runs under another activation, and a return from it goes on there
-  pub realizes_then : (a b : t.above) (m : t.state) (rs : List Reply) (log : List Note) (r : State × Outcome Term) (f : Term → M Term) (resumed : t.state → Term → t.state) →
+  pub realizes_then : (a b : t.above) (m : t.state) (rs : List Reply) (log : List Event) (r : State × Outcome Term) (f : Term → M Term) (resumed : t.state → Term → t.state) →
       Realizes t b m rs log r →
       ((x : Term) (u : t.state) → t.returns b x u ≡ goes (resumed u x)) →
       ((c : Class) (x : Term) (u : t.state) → t.unwinds b c x u ≡ t.unwinds a c x u) →
-      ((v : Term) (s : State) (u : t.state) (rs1 : List Reply) (log1 : List Note) → Matches t s u rs1 log1 → Realizes t a (resumed u v) rs1 log1 (f v s)) →
+      ((v : Term) (s : State) (u : t.state) (rs1 : List Reply) (log1 : List Event) → Matches t s u rs1 log1 → Realizes t a (resumed u v) rs1 log1 (f v s)) →
       Realizes t a m rs log (after r.0 r.1 f)
   realizes_then a b m rs log (s, gives vs) f resumed w back up' next =
       comes_realizes a m (resumed w.state vs) rs w.rs' log w.log' (f vs s)

@@ -6,10 +6,10 @@ use Rattle.erl_term.specs.Terms.{Values}
 use Rattle.world_model.specs.Run.{State, give}
 use Rattle.world_model.specs.World.{Reply, Script}
 use Rattle.core_meaning.specs.CoreRun as E
-use Rattle.step_machine.proofs.Keeping.{give_keeps}
+use Rattle.step_machine.proofs.EntryLaws.{give_keeps}
 use Rattle.step_machine.specs.Bodies.{Bodies, entered_deep}
 use Rattle.step_machine.specs.Follows.{Follows}
-use Rattle.step_machine.specs.Steps.{Note, run}
+use Rattle.step_machine.specs.Steps.{Event, run}
 use Rattle.beam_table.specs.Code.{Reg, Source, Insn, move, return, AsmFun, AsmModule}
 use Rattle.beam_table.specs.GeneralRules.{returns_to, with_cell, cells}
 use Rattle.beam_table.specs.InstructionStep.{step}
@@ -32,7 +32,7 @@ unfoldable pub bodies : Term → Bodies
 bodies t n here vs = give t
 
 module _ (a : AsmModule) (t : Term) (own : Term) (all : (n : ℕ) (f : AsmFun) → slice_get a.funs n ≡ Some f → f.code ≡ code t) where
-  returned : (vs : Values) (above : List Activation) (m : Machine) (rs : List Reply) (log : List Note) →
+  returned : (vs : Values) (above : List Activation) (m : Machine) (rs : List Reply) (log : List Event) →
       Comes (target a own) (placed (code t) (cells vs) above m) rs log (returns_to above t (placed [] (with_cell 0 (Cell.term t) (cells vs)) above m)) rs log
   unfolding step run
   returned [] above m rs log = record { steps = 1; then_same = λ k. refl }

@@ -6,13 +6,13 @@ use Rattle.erl_term.specs.Terms.{Values}
 use Rattle.world_model.specs.Run as Run
 use Rattle.world_model.specs.Run.{State, Outcome, gives, raises, waits, spent}
 use Rattle.world_model.specs.World.{Reply}
-use Rattle.step_machine.proofs.OneWay.{run_once, both_ways}
+use Rattle.step_machine.proofs.OneWayLaws.{run_once, both_ways}
 use Rattle.step_machine.specs.Bodies.{Bodies, entered_deep}
 use Rattle.step_machine.specs.Follows.{Meant, Noted, EndsAs, Reaches, Follows, Next, OneWay, site_list}
 use Rattle.step_machine.specs.Steps.{Stepped, ends, Ran, ran, over, perform, run, sites}
 use Rattle.behaviour.proofs.Realizing.{realized}
 use Rattle.step_machine.specs.EntryBound.{Lowers, BodiesKeep}
-use Rattle.step_machine.proofs.Keeping.{lowers, bounded, met}
+use Rattle.step_machine.proofs.EntryLaws.{lowers, bounded, met}
 use Rattle.behaviour.specs.Realizes.{Target, Matches, To, Realizes, BodiesRealized}
 use Rattle.step_machine.specs.Steps.{up}
 

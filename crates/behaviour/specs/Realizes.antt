@@ -8,7 +8,7 @@ use Rattle.world_model.specs.World.{Reply}
 use Rattle.step_machine.specs.Bodies.{Bodies}
 use Rattle.step_machine.specs.EntryBound.{Lowers}
 use Rattle.step_machine.specs.Follows.{Noted}
-use Rattle.step_machine.specs.Steps.{Note, Stepped, ends, ran, unfinished, up, perform, run, sites}
+use Rattle.step_machine.specs.Steps.{Event, Stepped, ends, ran, unfinished, up, perform, run, sites}
 
 -- a machine: its steps; what stands above an activation; when a state is at a function's entry; when it has the
 -- mailbox of a process; and what a return and a raise out of an activation lead to
@@ -23,33 +23,33 @@ pub record Target : Type 1 where
 
 module _ (t : Target) where
   -- the notes and the replies left are those of the process
-  pub record Matches (s : State) (m : t.state) (rs : List Reply) (log : List Note) : Type 0 where
+  pub record Matches (s : State) (m : t.state) (rs : List Reply) (log : List Event) : Type 0 where
     pub replies : rs ≡ s.replies
     pub noted : Noted s.notes log
     pub mailbox : t.holds s m
 
   -- from m the run comes to a step that leads there, which takes one more step
-  pub record Comes (m : t.state) (rs : List Reply) (log : List Note) (x : Stepped t.state) (rs' : List Reply) (log' : List Note) : Type 0 where
+  pub record Comes (m : t.state) (rs : List Reply) (log : List Event) (x : Stepped t.state) (rs' : List Reply) (log' : List Event) : Type 0 where
     pub steps : ℕ
     pub then_same : (k : ℕ) → run t.step (up steps (suc k)) m rs log ≡ perform x (run t.step k) rs' log'
 
-  pub record To (m : t.state) (rs : List Reply) (log : List Note) (s : State) (x : t.state → Stepped t.state) : Type 0 where
+  pub record To (m : t.state) (rs : List Reply) (log : List Event) (s : State) (x : t.state → Stepped t.state) : Type 0 where
     pub state : t.state
     pub rs' : List Reply
-    pub log' : List Note
+    pub log' : List Event
     pub matches : Matches s state rs' log'
     pub comes : Comes m rs log (x state) rs' log'
 
   -- the run stands before one entry too many
-  pub record Stands (m : t.state) (rs : List Reply) (log : List Note) (s : State) : Type 0 where
+  pub record Stands (m : t.state) (rs : List Reply) (log : List Event) (s : State) : Type 0 where
     pub steps : ℕ
-    pub log' : List Note
+    pub log' : List Event
     pub stops : run t.step steps m rs log ≡ ran log' unfinished
     pub noted : Noted s.notes log'
     pub site : ℕ
     pub enters : sites (run t.step (suc steps) m rs log).log ≡ site ∷ sites log'
 
-  abbrev pub Realizes : t.above → t.state → List Reply → List Note → State × Outcome Term → Type 0
+  abbrev pub Realizes : t.above → t.state → List Reply → List Event → State × Outcome Term → Type 0
   Realizes a m rs log (s, gives v) = To m rs log s (t.returns a v)
   Realizes a m rs log (s, raises c r) = To m rs log s (t.unwinds a c r)
   Realizes a m rs log (s, waits q) = To m rs log s (λ _. ends (waits q))
@@ -57,11 +57,11 @@ module _ (t : Target) where
 
   -- with fewer than d entries left, whatever stands above
   abbrev pub RealizesAll : ℕ → (ℕ → Values → M Term) → Type 0
-  RealizesAll d enter = (n : ℕ) (vs : Values) (a : t.above) (m : t.state) (rs : List Reply) (log : List Note) (s : State) →
+  RealizesAll d enter = (n : ℕ) (vs : Values) (a : t.above) (m : t.state) (rs : List Reply) (log : List Event) (s : State) →
       s.left < d → t.at_entry n vs a m → Matches s m rs log → Realizes a m rs log (enter n vs s)
 
   -- what is to be proved of each function of the module with this name, run by this process, the others left open
   abbrev pub BodiesRealized : Name → Term → Bodies → Type 0
-  BodiesRealized name own bs = (d n : ℕ) (enter : ℕ → Values → M Term) (vs : Values) (a : t.above) (m : t.state) (rs : List Reply) (log : List Note) (s : State) →
+  BodiesRealized name own bs = (d n : ℕ) (enter : ℕ → Values → M Term) (vs : Values) (a : t.above) (m : t.state) (rs : List Reply) (log : List Event) (s : State) →
       Lowers enter → RealizesAll d enter → s.left ≤ d → t.at_entry n vs a m → Matches s m rs log →
       Realizes a m rs log (bs n (record { name = name; own = own; enter = enter }) vs s)

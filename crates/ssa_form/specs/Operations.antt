@@ -14,7 +14,7 @@ use Rattle.world_model.specs.Run.{State, Outcome, gives, raises, waits, spent, M
 use Rattle.world_model.specs.Meaning.{single}
 use Rattle.world_model.specs.MapUpdate.{put_all}
 use Rattle.world_model.specs.Receive.{Timeout, now, in', wrong, timeout_of, without, new_or}
-use Rattle.world_model.specs.References.{Standing, after_note, standing, place_of}
+use Rattle.world_model.specs.References.{Standing, after_note, standing, save_place}
 use Rattle.world_model.specs.RemoteCalls.{takes, call_terms, apply_term, raise_again}
 use Rattle.world_model.specs.Requests.{badarg, send_to}
 use Rattle.step_machine.specs.Bodies.{Here, calling, callees}
@@ -244,7 +244,7 @@ module _ {S : Type 0} (o : Storage S) (around : Around) (here : Here) where
 
   -- a receive for a reference begins: the save place is that of the serial below which it passes messages over
   abbrev pub begins : Term → Standing → Frame S → State → After S
-  begins r a f s = on (record f { save = place_of (after_note (began (Some r)) a).low s.mailbox }) (noting (began (Some r)) s)
+  begins r a f s = on (record f { save = save_place (after_note (began (Some r)) a).low s.mailbox }) (noting (began (Some r)) s)
 
   abbrev pub use_does : Values → Frame S → State → After S
   use_does (T.reference r ∷ []) f s = outside f (begins (T.reference r) (standing around.choices s.notes) f s)

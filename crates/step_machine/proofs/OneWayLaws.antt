@@ -4,7 +4,7 @@ use Rattle.erl_term.specs.Term.{Term}
 use Rattle.world_model.specs.Run as Run
 use Rattle.world_model.specs.Run.{Entry, Outcome, gives, raises, waits, spent}
 use Rattle.world_model.specs.World.{Reply, asked}
-use Rattle.step_machine.specs.Follows.{Meant, EndsAs, IsSuffix, BothWays, Next, OneWay, site_list}
+use Rattle.step_machine.specs.Follows.{Meant, EndsAs, IsSuffix, Follows, Next, OneWay, site_list}
 use Rattle.step_machine.specs.RunFacts.{Later}
 use Rattle.step_machine.specs.Steps.{Event, happened, entered, Stepped, goes, ends, bad, notes, asks, End, over, unfinished, is_bad, Ran, perform, run, happenings, sites}
 
@@ -148,7 +148,7 @@ module _ (R : ℕ → Ran) (E : ℕ → Meant) (once : (k : ℕ) → Once (R k) 
   never_of k (inl e) q = bad_end _ _ (way.reaches (count k)).1.end (ap (λ r. r.end) e ∙ q)
   never_of k (inr h) q = let d : unfinished ≡ is_bad = sym h.0 ∙ q in cc
 
-  pub both_ways : BothWays R E
+  pub both_ways : Follows R E
   unfolding at count meant
   both_ways = record {
     reaches = λ n. let w = way.reaches n in (w.0, w.1);

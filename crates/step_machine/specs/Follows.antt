@@ -46,7 +46,7 @@ pub record Noted (ns : List Run.Note) (log : List Event) : Type 0 where
   pub looked : LeavesOut (Run.looks ns) (serials log)
 
 -- a run notes what a meaning noted, and ends as it did
-pub record RanAsMeant (r : Ran) (e : Meant) : Type 0 where
+pub record Reaches (r : Ran) (e : Meant) : Type 0 where
   pub noted : Noted e.notes r.log
   pub end : EndsAs r.end e.end
 
@@ -59,8 +59,8 @@ abbrev pub bound_of : Ran → ℕ
 bound_of r = length (sites r.log)
 
 -- run k: the run with k steps; eval n: the meaning with at most n entries
-pub record BothWays (run : ℕ → Ran) (eval : ℕ → Meant) : Type 0 where
-  pub reaches : (n : ℕ) → (k : ℕ) × RanAsMeant (run k) (eval n)
+pub record Follows (run : ℕ → Ran) (eval : ℕ → Meant) : Type 0 where
+  pub reaches : (n : ℕ) → (k : ℕ) × Reaches (run k) (eval n)
   pub within : (k : ℕ) →
       IsSuffix (happenings (run k).log) (Run.happenings (eval (bound_of (run k))).notes)
       × (sites (run k).log ≡ site_list (Run.entries (eval (bound_of (run k))).notes))
@@ -75,7 +75,7 @@ Next run k _ = Unit {0}
 
 -- a run comes to each meaning
 pub record OneWay (run : ℕ → Ran) (eval : ℕ → Meant) : Type 0 where
-  pub reaches : (n : ℕ) → (k : ℕ) × RanAsMeant (run k) (eval n) × Next run k (eval n).end
+  pub reaches : (n : ℕ) → (k : ℕ) × Reaches (run k) (eval n) × Next run k (eval n).end
   -- the meaning keeps its bound, and meets it where it is spent
   pub bounded : (n : ℕ) → length (site_list (Run.entries (eval n).notes)) ≤ n
   pub met : (n : ℕ) → (eval n).end ≡ spent → length (site_list (Run.entries (eval n).notes)) ≡ n
@@ -83,4 +83,4 @@ pub record OneWay (run : ℕ → Ran) (eval : ℕ → Meant) : Type 0 where
 -- one direction suffices
 abbrev pub OneWaySuffices : Type 0 → Type 0
 OneWaySuffices S = (step : S → Stepped S) (m : S) (rs : List Reply) (log : List Event) (eval : ℕ → Meant) →
-    OneWay (λ k. Steps.run step k m rs log) eval → BothWays (λ k. Steps.run step k m rs log) eval
+    OneWay (λ k. Steps.run step k m rs log) eval → Follows (λ k. Steps.run step k m rs log) eval

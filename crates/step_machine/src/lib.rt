@@ -4,7 +4,7 @@
 //! state and a list of replies, and gives what was noted, the latest first, and how it ended. So a machine that asks for
 //! one reply and ends with its term is over after one step; without a reply it ends waiting on its request.
 //!
-//! - `BothWays`: for each bound on entries some number of steps notes and ends as the meaning does, and each number of
+//! - `Follows`: for each bound on entries some number of steps notes and ends as the meaning does, and each number of
 //!   steps stays within it. `one_direction_suffices` gets this from steps that come to each meaning.
 //! - `entered_deep`: functions that enter one another by their sites; `EntryBound` says how they count their entries.
 //! - A step that must not be is `bad`, which is an end of its own, so that a run that is never bad can be asked for.
