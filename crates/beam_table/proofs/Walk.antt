@@ -16,7 +16,7 @@ use Rattle.step_machine.specs.Frames.{MatchContext, is_tag, rest_of}
 use Rattle.step_machine.specs.Steps.{happened, entered, examined, sub_binary, goes, ends, bad, notes, asks}
 use Rattle.beam_table.specs.Code
 use Rattle.beam_table.specs.Binaries.{shape, number_shape, do_get_integer, if_context, if_position, context_in, write_sub, read_segments, or_no_match, starts, takes, takes_segment, creates}
-use Rattle.beam_table.specs.Calls.{below, never_returns, frame_unless, enters, function_at, do_call, do_call_only, replied, calls_out, sent, sends, sends_or_calls, answered, erlang_answers, answers_call, call_any, returns, do_call_ext, do_call_ext_only, do_send, do_make_fun, enters_fun, applies, do_call_fun, calls_named, do_apply}
+use Rattle.beam_table.specs.Calls.{suspended, never_returns, frame_unless, enters, function_at, do_call, do_call_only, replied, calls_out, sent, sends, sends_or_calls, answered, erlang_answers, answers_call, call_any, returns, do_call_ext, do_call_ext_only, do_send, do_make_fun, enters_fun, applies, do_call_fun, calls_named, do_apply}
 use Rattle.bif_table.specs.TermTests.{Comparison}
 use Rattle.beam_table.specs.Code.{Reg, x_reg, y_reg, Source, reg, Extern, Flags, Segment, Insn, label, func_info, move, swap, init_yregs, allocate, allocate_heap, deallocate, trim, test_heap, return, put_list, put_tuple2, make_fun3, put_map_assoc, put_map_exact, get_list, get_hd, get_tl, get_tuple_element, get_map_elements, has_map_fields, jump, test, compares, test_arity, is_tagged_tuple, select_val, select_tuple_arity, bif, gc_bif, call, call_only, call_last, call_ext, call_ext_only, call_ext_last, call_fun, apply, apply_last, send, build_stacktrace, raise, badmatch, case_end, try_case_end, if_end, try, catch, try_end, try_case, catch_end, loop_rec, remove_message, loop_rec_end, wait, wait_timeout, timeout, recv_marker_reserve, recv_marker_bind, recv_marker_use, recv_marker_clear, bs_start_match4, bs_get_integer2, bs_get_binary2, bs_skip_bits2, bs_test_tail2, bs_test_unit, bs_get_tail, bs_get_position, bs_set_position, bs_create_bin, AsmFun, AsmModule}
 use Rattle.beam_table.specs.Data.{do_init, do_allocate, drops, if_cons, if_tuple, if_map, read_pairs, write_all, firsts, seconds, put_in, do_put_map, all_or_jumps, do_get_elements}
@@ -321,11 +321,11 @@ module _ (a : AsmModule) (cs : List Activation) (Q : Effect → Inbox → Type 0
   function_q : {w : Inbox} → (l n : ℕ) (k : ℕ → AsmFun → Effect) → ((s : ℕ) (f : AsmFun) → Q (k s f) w) → Q (function_at a l n k) w
   function_q l n k h = some_q (entry_at a.funs l 0) _ λ f. if_needs _ _ (h f.0 f.1)
 
-  enters_below : (s : ℕ) (f : AsmFun) (ds : List Cell) (m : Machine) → At m → Q (enters a false s f ds (below m)) (inbox m)
+  enters_below : (s : ℕ) (f : AsmFun) (ds : List Cell) (m : Machine) → At m → Q (enters a false s f ds (suspended m)) (inbox m)
   enters_below s f ds m e = qentered _ _ (_, ap (λ z. record { frame = m.frame; back = m.code } ∷ z) e)
 
   call_q : (n l : ℕ) (m : Machine) → At m → Q (do_call a n l m) (inbox m)
-  call_q n l m e = frame_q m.frame _ λ ys. leaves_q n m _ e λ u f. function_q l n (λ s g. enters a false s g (take n u.xs) (below u)) λ s g. enters_below s g (take n u.xs) u f
+  call_q n l m e = frame_q m.frame _ λ ys. leaves_q n m _ e λ u f. function_q l n (λ s g. enters a false s g (take n u.xs) (suspended u)) λ s g. enters_below s g (take n u.xs) u f
 
   call_only_q : (n l : ℕ) (m : Machine) → At m → Q (do_call_only a n l m) (inbox m)
   call_only_q n l m e = no_frame_q m _ (leaves_q n m _ e λ u f. function_q l n (λ s g. enters a true s g (take n u.xs) u) λ s g. qentered _ _ f)

@@ -15,12 +15,14 @@ use Rattle.beam_table.specs.MachineState.{Cell, Machine, unset}
 use Rattle.beam_table.specs.GeneralRules.{Effect, needs, in_frame, no_frame, if_some, if_term, read, read_all, arguments, cells, outside_window, write_term, alone, leaves, builds, entry_at, raising, asking, returns_to}
 
 -- the running activation waits above the one that comes
-abbrev pub below : Machine → Machine
-below m = record m { callers = record { frame = m.frame; back = m.code } ∷ m.callers; frame = None }
+abbrev pub suspended : Machine → Machine
+suspended m = record m { callers = record { frame = m.frame; back = m.code } ∷ m.callers; frame = None }
 
+-- a function of the module erlang that always raises
 abbrev pub never_returns : Extern → Bool
 never_returns e = same_name e.mod_name (codes "erlang") && raises_always e.name e.arity
 
+-- needs a frame but in this case
 abbrev pub frame_unless : Bool → Machine → Effect → Effect
 frame_unless true m a = a
 frame_unless false m a = in_frame m.frame λ ys. a
@@ -36,7 +38,7 @@ module _ (a : AsmModule) where
 
   -- {call,A,L}: needs a frame, leaves, and enters the function of arity A at L in a new activation
   abbrev pub do_call : ℕ → ℕ → Machine → Effect
-  do_call n l m = in_frame m.frame λ ys. leaves n m λ u. function_at l n λ s f. enters false s f (take n u.xs) (below u)
+  do_call n l m = in_frame m.frame λ ys. leaves n m λ u. function_at l n λ s f. enters false s f (take n u.xs) (suspended u)
 
   -- {call_only,A,L}: needs no frame; the same in place of this activation
   abbrev pub do_call_only : ℕ → ℕ → Machine → Effect
@@ -68,11 +70,13 @@ module _ (a : AsmModule) where
   abbrev pub sends : Term → Term → Machine → (Term → Machine → Effect) → Effect
   sends to message m k = asking (W.send to message) m λ r u. sent message r u k
 
+  -- a function of the module erlang that is not listed
   abbrev pub sends_or_calls : Name → List Term → Machine → (Term → Machine → Effect) → Effect
   sends_or_calls g (to ∷ message ∷ []) m k =
       if is_send g then sends to message m k else calls_out (codes "erlang") g (to ∷ message ∷ []) m k
   sends_or_calls g ts m k = calls_out (codes "erlang") g ts m k
 
+  -- what a listed function answers
   abbrev pub answered : Answer → Machine → (Term → Machine → Effect) → Effect
   answered (value t) m k = k t m
   answered (raised c r) m k = raising a c r m
@@ -96,6 +100,7 @@ module _ (a : AsmModule) where
   unfolding answers_call
   call_any n e m k = leaves n m λ u. arguments n u.xs λ ts. answers_call e.mod_name e.name ts u k
 
+  -- back to the caller
   abbrev pub returns : Term → Machine → Effect
   returns t m = returns_to m.callers t m
 
@@ -126,6 +131,7 @@ module _ (a : AsmModule) where
       needs (eqb f.entry l && leb (length ss) f.key.arity) (builds (4 + length ss) m λ u. read_all u ss λ ts.
       write_term u d (T.fun a.name s (f.key.arity - length ss) (terms ts)) goes)
 
+  -- the reason of a call with another number of arguments
   abbrev pub badarity : Term → List Term → Term
   badarity t ts = tagged (codes "badarity") (T.tuple (more t (more (list_of ts T.nil) none)))
 
@@ -134,12 +140,13 @@ module _ (a : AsmModule) where
   with_arity None n = None
   with_arity (Some f) n = if eqb f.key.arity n then Some f else None
 
+  -- function s of this module, if it is there with n parameters
   abbrev pub own_function : Name → ℕ → ℕ → Option AsmFun
   own_function m s n = if same_name m a.name then with_arity (slice_get a.funs s) n else None
 
   -- enters a fun of this module; any other one is called by the world
   abbrev pub enters_fun : Option AsmFun → Term → ℕ → List Term → List Term → Machine → Effect
-  enters_fun (Some f) t s ts us m = enters false s f (cells (ts ++ us)) (below m)
+  enters_fun (Some f) t s ts us m = enters false s f (cells (ts ++ us)) (suspended m)
   enters_fun None t s ts us m = calls_out (codes "erlang") (codes "apply") (t ∷ list_of ts T.nil ∷ []) m alone
 
   -- what a term does with arguments: a fun of this module is entered with its captures after them, any other fun is

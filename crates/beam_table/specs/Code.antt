@@ -6,6 +6,7 @@ use Rattle.erl_term.specs.Term.{Term}
 use Rattle.bif_table.specs.Builtins.{Bif}
 use Rattle.bif_table.specs.TermTests.{TypeTest, Comparison}
 
+-- X registers belong to the run, Y registers are the slots of the current frame
 pub data Reg : Type 0 where
   x_reg y_reg : ℕ → Reg
 
@@ -23,6 +24,7 @@ pub record Extern : Type 0 where
   pub name : Name
   pub arity : ℕ
 
+-- how the bits of a segment are read as a number; unsigned and big where neither is set
 pub record Flags : Type 0 where
   pub signed : Bool
   pub little : Bool
@@ -128,6 +130,7 @@ pub record AsmFun : Type 0 where
   pub entry : ℕ
   pub code : List Insn
 
+-- a module; an export means the first function of its name and arity
 pub record AsmModule : Type 0 where
   pub name : Name
   pub exports : List FunKey

@@ -16,6 +16,7 @@ abbrev pub do_tag : Kind → ℕ → ℕ → Machine → Effect
 do_tag k n l m = outside_window m (in_frame m.frame λ ys.
     needs (ltb n (length ys) && no_tags tag_in (take (suc n) ys)) (goes (record m { frame = Some (with_cell n (tag k l) ys) })))
 
+-- a tag is wanted
 abbrev pub if_tag : Cell → (Kind → Effect) → Effect
 if_tag (tag k l) f = f k
 if_tag _ f = bad
@@ -36,6 +37,7 @@ do_try_case n m = elim m.landing [
   | Some k ↦ ends_tag n m λ j u. goes (record u { landing = None })
 ]
 
+-- a tag of catch is wanted
 abbrev pub if_catch : Kind → Effect → Effect
 if_catch a_catch a = a
 if_catch a_try a = bad

@@ -6,6 +6,7 @@ use Rattle.world_model.specs.References.{Bound}
 use Rattle.step_machine.specs.Frames.{MatchContext}
 use Rattle.beam_table.specs.Code.{Insn}
 
+-- the two kinds of handlers
 pub data Kind : Type 0 where
   a_try a_catch : Kind
 
@@ -21,6 +22,7 @@ pub record Activation : Type 0 where
   pub frame : Option (List Cell)
   pub back : List Insn
 
+-- registers and frames, what is matched, and how the run stands to the world
 pub record Machine : Type 0 where
   pub xs : List Cell
   pub frame : Option (List Cell)

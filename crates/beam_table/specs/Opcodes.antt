@@ -18,9 +18,11 @@ pub record OpcodeRow : Type 0 where
   pub is_test : Bool
   pub kinds : List Kind
 
+-- a row whose name comes first
 abbrev pub plain_row : Name → List Kind → OpcodeRow
 plain_row a ks = record { name = a; is_test = false; kinds = ks }
 
+-- a row whose name stands behind `test`
 abbrev pub test_row : Name → List Kind → OpcodeRow
 test_row a ks = record { name = a; is_test = true; kinds = ks }
 

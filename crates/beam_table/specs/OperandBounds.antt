@@ -1,5 +1,5 @@
 -- Bounds on operands, and the labels that an instruction names.
-use Rattle.std.specs.Prelude.{ℕ, ◌^◌, List, [], ◌∷◌, ◌++◌, length, Bool, true, false, not, ◌&&◌, eqb, leb, ltb, Option, Some, None}
+use Rattle.std.specs.Prelude.{ℕ, ◌+◌, ◌^◌, List, [], ◌∷◌, ◌++◌, length, Bool, true, false, not, ◌&&◌, eqb, leb, ltb, Option, Some, None}
 use Rattle.beam_table.specs.Code as C
 use Rattle.beam_table.specs.Code.{Reg, x_reg, y_reg, Source, reg, Insn, func_info, bif, gc_bif, call_ext, call_ext_only, call_ext_last}
 use Rattle.erl_term.specs.WellFormed.{maps_rise}
@@ -9,10 +9,31 @@ use Rattle.beam_table.specs.Operands.{Operand, Operands, operands, source, regis
 
 -- Bounds.
 
-abbrev pub register_ok : Reg → Bool
-register_ok (x_reg n) = leb n 1022
-register_ok (y_reg n) = ltb n (2 ^ 24)
+-- The limits of the machine and of its text.
 
+abbrev pub most_x_register : ℕ
+most_x_register = 1022
+
+abbrev pub most_arity : ℕ
+most_arity = 255
+
+abbrev pub most_unit : ℕ
+most_unit = 256
+
+-- slots and other counts stay below
+abbrev pub count_limit : ℕ
+count_limit = 2 ^ 24
+
+-- labels and numbers of functions stay below
+abbrev pub label_limit : ℕ
+label_limit = 2 ^ 32
+
+-- a register that the machine has
+abbrev pub register_ok : Reg → Bool
+register_ok (x_reg n) = leb n most_x_register
+register_ok (y_reg n) = ltb n count_limit
+
+-- an operand that a text can hold
 unfoldable pub source_ok : Source → Bool
 unfolding maps_rise
 source_ok (reg r) = register_ok r
@@ -20,9 +41,11 @@ source_ok (C.integer z) = is_within_128 z
 source_ok (C.literal t) = maps_rise t && fits t
 source_ok _ = true
 
+-- a label
 abbrev pub label_ok : ℕ → Bool
-label_ok l = ltb 0 l && ltb l (2 ^ 32)
+label_ok l = ltb 0 l && ltb l label_limit
 
+-- a label, if there is one
 abbrev pub option_ok : Option ℕ → Bool
 option_ok None = true
 option_ok (Some l) = label_ok l
@@ -37,14 +60,14 @@ unfoldable mutual
   operand_ok (entry_label l) = label_ok l
   operand_ok (label_or_zero o) = option_ok o
   operand_ok (label_or_no_fail o) = option_ok o
-  operand_ok (x_slot n) = leb n 1022
-  operand_ok (y_slot n) = ltb n (2 ^ 24)
-  operand_ok (live n) = leb n 1023
-  operand_ok (arity n) = leb n 255
-  operand_ok (site n) = ltb n (2 ^ 32)
-  operand_ok (unit n) = ltb 0 n && leb n 256
-  operand_ok (amount n) = ltb n (2 ^ 24)
-  operand_ok (extfunc e) = leb e.arity 255
+  operand_ok (x_slot n) = leb n most_x_register
+  operand_ok (y_slot n) = ltb n count_limit
+  operand_ok (live n) = leb n (most_x_register + 1)
+  operand_ok (arity n) = leb n most_arity
+  operand_ok (site n) = ltb n label_limit
+  operand_ok (unit n) = ltb 0 n && leb n most_unit
+  operand_ok (amount n) = ltb n count_limit
+  operand_ok (extfunc e) = leb e.arity most_arity
   operand_ok (items os) = operands_ok os
   operand_ok (list os) = operands_ok os
   operand_ok _ = true
@@ -64,12 +87,14 @@ agrees (call_ext_only n e) = eqb n e.arity
 agrees (call_ext_last n e k) = eqb n e.arity
 agrees _ = true
 
+-- an instruction whose operands are in their bounds and agree
 unfoldable pub insn_ok : Insn → Bool
 unfolding operand_ok
 insn_ok i = agrees i && operands_ok (operands i).1
 
 -- Labels that are named.
 
+-- the label, if there is one
 abbrev pub option_list : Option ℕ → List ℕ
 option_list None = []
 option_list (Some l) = l ∷ []
@@ -87,6 +112,7 @@ abbrev mutual
   all_own_labels end = []
   all_own_labels (o then os) = own_labels o ++ all_own_labels os
 
+-- labels of any function's entry
 abbrev pub entry_labels : Operands → List ℕ
 entry_labels end = []
 entry_labels (entry_label l then os) = l ∷ entry_labels os

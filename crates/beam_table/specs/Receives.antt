@@ -16,10 +16,12 @@ use Rattle.beam_table.specs.GeneralRules.{Effect, with_cell, read_reg, read, out
 abbrev pub look_at : ℕ → Message → Machine → Effect
 look_at n w m = notes (examined w.serial) (goes (record m { xs = with_cell n (term w.term) []; window = Some w }))
 
+-- the message, if there is one
 abbrev pub look_or : ℕ → Option Message → Machine → (Machine → Effect) → Effect
 look_or n (Some w) m k = look_at n w m
 look_or n None m k = k m
 
+-- the message that is looked at is wanted
 abbrev pub in_window : Machine → (Message → Effect) → Effect
 in_window m k = elim m.window [ None ↦ bad | Some w ↦ k w ]
 
@@ -57,6 +59,7 @@ module _ (a : AsmModule) where
   abbrev pub do_wait : ℕ → Machine → Effect
   do_wait l m = outside_window m (waits_for l forever (record m { xs = [] }))
 
+  -- what a timeout leads to
   abbrev pub waits_until : ℕ → Timeout → Machine → Effect
   waits_until l now m = goes m
   waits_until l (in' d) m = waits_for l d m
@@ -73,10 +76,12 @@ module _ (a : AsmModule) where
 abbrev pub begins : Standing → Machine → Machine
 begins a m = record m { markers = a.bound; choices = a.choices; save = place_of a.low m.mailbox }
 
+-- a reference is wanted
 abbrev pub if_reference : Term → (ℕ → Effect) → Effect
 if_reference (T.reference n) k = k n
 if_reference _ k = bad
 
+-- a marker is wanted
 abbrev pub if_marker : Cell → (ℕ → Effect) → Effect
 if_marker (marker n) k = k n
 if_marker _ k = bad

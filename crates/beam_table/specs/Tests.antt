@@ -25,6 +25,7 @@ size_label (c ∷ cs) (T.tuple ts) l = if eqb c.0 (length (listed ts)) then c.1 
 size_label _ t l = l
 
 module _ (a : AsmModule) where
+  -- whether all are there
   abbrev pub has_all : Option (List Term) → Bool
   has_all None = false
   has_all (Some ts) = true

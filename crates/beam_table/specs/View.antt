@@ -22,10 +22,12 @@ use Rattle.beam_table.specs.declared.asm.AsmFun.{AsmFun}
 use Rattle.beam_table.specs.declared.asm.AsmModule.{AsmModule}
 use Rattle.beam_table.specs.Code as Plain
 
+-- registers
 abbrev pub reg_view : Reg → Plain.Reg
 reg_view (R.X n) = Plain.x_reg n
 reg_view (R.Y n) = Plain.y_reg n
 
+-- operands that are read
 abbrev pub source_view : Source → Plain.Source
 source_view (S.Reg r) = Plain.reg (reg_view r)
 source_view (S.Atom a) = Plain.atom (a)
@@ -33,35 +35,45 @@ source_view (S.Integer z) = Plain.integer z
 source_view S.Nil = Plain.nil
 source_view (S.Literal t) = Plain.literal (view t)
 
+-- the type of a segment
 abbrev pub is_binary : SegmentKind → Bool
 is_binary SK.Integer = false
 is_binary SK.Binary = true
 
+-- functions of any module
 abbrev pub extern_view : Extern → Plain.Extern
 extern_view e = record { mod_name = e.«module»; name = e.name; arity = e.arity }
 
+-- how bits are read
 abbrev pub flags_view : Flags → Plain.Flags
 flags_view f = record { signed = f.signed; little = f.little }
 
+-- segments that are built
 abbrev pub segment_view : Segment → Plain.Segment
 segment_view g = record { is_binary = is_binary g.kind; number = g.number; unit = g.unit; flags = flags_view g.flags; value = source_view g.value; size = source_view g.size }
 
+-- labels that may be missing
 abbrev pub label_view : Option LabelId → Option ℕ
 label_view None = None
 label_view (Some l) = Some l.0
 
+-- pairs that are put
 abbrev pub put_view : PutPair → Plain.Source × Plain.Source
 put_view p = (source_view p.key, source_view p.value)
 
+-- keys with registers
 abbrev pub get_view : GetPair → Plain.Source × Plain.Reg
 get_view p = (source_view p.key, reg_view p.to)
 
+-- values with labels
 abbrev pub choice_view : ValueChoice → Plain.Source × ℕ
 choice_view c = (source_view c.value, c.label.0)
 
+-- sizes with labels
 abbrev pub size_choice_view : SizeChoice → ℕ × ℕ
 size_choice_view c = (c.size, c.label.0)
 
+-- instructions
 abbrev pub insn_view : Insn → Plain.Insn
 insn_view (V.Label l) = Plain.label l.0
 insn_view (V.Move s d) = Plain.move (source_view s) (reg_view d)
@@ -135,9 +147,11 @@ insn_view (V.BsGetPosition c d k) = Plain.bs_get_position (reg_view c) (reg_view
 insn_view (V.BsSetPosition c p) = Plain.bs_set_position (reg_view c) (reg_view p)
 insn_view (V.BsCreateBin l k u d gs) = Plain.bs_create_bin (label_view l) k u (reg_view d) (map segment_view gs)
 
+-- functions
 abbrev pub fun_view : AsmFun → Plain.AsmFun
 fun_view f = record { key = f.key; info = f.info.0; entry = f.entry.0; code = map insn_view f.code }
 
+-- modules
 abbrev pub module_view : AsmModule → Plain.AsmModule
 module_view m = record {
   name = m.name;

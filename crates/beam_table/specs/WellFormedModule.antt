@@ -12,9 +12,11 @@ use Rattle.beam_table.specs.declared.insn.Insn.TheVariants as V
 use Rattle.beam_table.specs.declared.asm.AsmFun.{AsmFun}
 use Rattle.beam_table.specs.declared.asm.AsmModule.{AsmModule}
 
+-- of pairs that are put
 abbrev pub put_sources : List PutPair → List Source
 put_sources ps = flat_map (λ p. p.key ∷ p.value ∷ []) ps
 
+-- of segments that are built
 abbrev pub segment_sources : List Segment → List Source
 segment_sources gs = flat_map (λ g. g.value ∷ g.size ∷ []) gs
 

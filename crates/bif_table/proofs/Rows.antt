@@ -4,13 +4,13 @@ use Rattle.erl_term.specs.Term as T
 use Rattle.erl_term.specs.Term.{Term, none, more, no_pair, pair}
 use Rattle.erl_term.specs.Terms.{word, truth}
 use Rattle.bif_table.specs.Builtins as B
-use Rattle.bif_table.specs.Builtins.{Bif, lookup, name_of, arity_of}
+use Rattle.bif_table.specs.Builtins.{Bif, lookup, bif_name, arity_of}
 use Rattle.bif_table.specs.BuiltinAnswer.{Answer, value, raised, badarg, badarith, badmap, badkey, answer}
 
 -- each function is found by its name and arity
-lookup-name_of : (b : Bif) → lookup (name_of b) (arity_of b) ≡ Some b
-lookup-name_of B.Add = refl
-lookup-name_of b = refl
+lookup-bif_name : (b : Bif) → lookup (bif_name b) (arity_of b) ≡ Some b
+lookup-bif_name B.Add = refl
+lookup-bif_name b = refl
 
 abbrev couple : Term
 couple = T.tuple (more (word (codes "a")) (more (T.int (pos 1)) none))

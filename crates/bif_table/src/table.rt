@@ -178,7 +178,7 @@ pub fn is_guard(bif: Bif) -> bool
 
 impl Bif {
     pub fn name(self) -> &'static str
-        ensures { result.now ≡ Plain.name_of (bif_view self) }
+        ensures { result.now ≡ Plain.bif_name (bif_view self) }
     {
         self.row().name
     }
@@ -201,7 +201,7 @@ impl Bif {
 
     // The table.
     fn row(self) -> Row
-        ensures name { result.name.now ≡ Plain.name_of (bif_view self) }
+        ensures name { result.name.now ≡ Plain.bif_name (bif_view self) }
         ensures arity { result.arity ≡ Plain.arity_of (bif_view self) }
         ensures group { group_view result.group ≡ Plain.group_of (bif_view self) }
     {
@@ -273,7 +273,7 @@ impl Bif {
     }
 
     fn is_named(self, key: &FunKey) -> bool
-        ensures { result ≡ Plain.is_row (Plain.row_of (bif_view self)) key.now.name key.now.arity }
+        ensures { result ≡ Plain.is_row (Plain.row_of_bif (bif_view self)) key.now.name key.now.arity }
     {
         self.arity() == key.arity && is_text(&key.name, self.name())
     }
