@@ -10,7 +10,7 @@ use Rattle.world_model.specs.World as W
 use Rattle.world_model.specs.World.{Delay, forever, millis, Request, Reply, Message}
 use Rattle.world_model.specs.Run.{Entry, State, happened, looked, Outcome, M, give, fail, answered, numbered, noting}
 use Rattle.world_model.specs.RemoteCalls.{apply_term, call_erlang, call_terms}
-use Rattle.world_model.specs.Entries.{counted, entering}
+use Rattle.world_model.specs.Entries.{counted, enter_site}
 use Rattle.world_model.specs.Requests.{call_out, send_or_call, is_send, answers}
 use Rattle.world_model.specs.Receive.{Timeout, now, in', wrong, timeout_of, Tried, cutting, taking, take_message, pass_over, try_each, looking, waiting, new_or, receiving}
 use Rattle.core_form.specs.Core.{Expr, values, var, fun_name, literal, list, tuple, new_map, map_of, binary, fun, let_in, letrec, case, apply, call, primop, do_then, catch, try, receive, Exprs, no_expr, and_expr, MapParts, no_part, and_part, map_part, Segments, no_segment, and_segment, segment, Clauses, no_clause, and_clause, clause}
@@ -127,7 +127,7 @@ module _ (L : Logic) (here : Invocation) (f : ℕ → Values → M Term) (enters
   abbrev there : Invocation
   there = entered_with here f
 
-  entering_ok : (n : ℕ) (tail : Bool) (vs : Values) → L.Rel (entering here.enter n tail vs) (entering f n tail vs)
+  entering_ok : (n : ℕ) (tail : Bool) (vs : Values) → L.Rel (enter_site here.enter n tail vs) (enter_site f n tail vs)
   entering_ok n tail vs = L.bound (counted _ (here.enter n vs)) (counted _ (f n vs)) _ _ (enters (record { site = n; tail = tail }) n vs) (λ t. single_ok L t)
 
   apply_ok : (t : Term) (vs : Values) → L.Rel (apply_term (own_functions here) t vs) (apply_term (own_functions there) t vs)
@@ -155,8 +155,8 @@ module _ (L : Logic) (here : Invocation) (f : ℕ → Values → M Term) (enters
   name_ok c k vs = go (function_of c.scope k)
     where
       go : (o : Option (ℕ × List Use)) →
-          let m : M Values = elim o [ None ↦ give [] | Some g ↦ entering here.enter g.0 c.tail (vs ++ captured_terms c.env g.1) ] in
-          let m' : M Values = elim o [ None ↦ give [] | Some g ↦ entering f g.0 c.tail (vs ++ captured_terms c.env g.1) ] in
+          let m : M Values = elim o [ None ↦ give [] | Some g ↦ enter_site here.enter g.0 c.tail (vs ++ captured_terms c.env g.1) ] in
+          let m' : M Values = elim o [ None ↦ give [] | Some g ↦ enter_site f g.0 c.tail (vs ++ captured_terms c.env g.1) ] in
           L.Rel m m'
       go None = L.given _
       go (Some g) = entering_ok _ _ _

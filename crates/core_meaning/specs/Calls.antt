@@ -9,7 +9,7 @@ use Rattle.world_model.specs.Run.{M, ◌>>=◌, fail, ask}
 use Rattle.world_model.specs.Meaning.{single}
 use Rattle.world_model.specs.Requests.{badarg}
 use Rattle.world_model.specs.RemoteCalls.{Callees, raise_again}
-use Rattle.world_model.specs.Entries.{entering}
+use Rattle.world_model.specs.Entries.{enter_site}
 use Rattle.core_form.specs.Sites.{Site}
 use Rattle.core_meaning.specs.PassedOnTail.{Param}
 
@@ -33,7 +33,7 @@ abbrev pub own_functions : Invocation → Callees
 own_functions here = record {
   name = here.name;
   parameters = λ n. parameters_of (slice_get here.sites n);
-  enter = λ n vs. entering here.enter n false vs;
+  enter = λ n vs. enter_site here.enter n false vs;
 }
 
 -- a tuple that begins with 'function_clause' stands for that atom alone

@@ -11,7 +11,7 @@ use Rattle.world_model.specs.Meaning.{as_values, one, single, either}
 use Rattle.world_model.specs.MapUpdate.{Put, put_all}
 use Rattle.world_model.specs.Requests.{badarg, exit_of}
 use Rattle.world_model.specs.RemoteCalls.{apply_term, call_terms}
-use Rattle.world_model.specs.Entries.{entering}
+use Rattle.world_model.specs.Entries.{enter_site}
 use Rattle.world_model.specs.Receive.{timeout_of, Tried, receiving}
 use Rattle.core_form.specs.Core.{Expr, values, var, fun_name, literal, list, tuple, new_map, map_of, binary, fun, let_in, letrec, case, apply, call, primop, do_then, catch, try, receive, Exprs, no_expr, and_expr, MapParts, no_part, and_part, map_part, Segments, no_segment, and_segment, segment, Clauses, no_clause, and_clause, clause}
 use Rattle.core_form.specs.Scope.{Use, function_of, with_names, names_of, bound_all}
@@ -63,7 +63,7 @@ fun_value here c (Some f) n = T.fun here.name f.0 n (terms (captured_terms c.env
 abbrev pub apply_name : Invocation → EvaluationContext → FunKey → Values → M Values
 apply_name here c f vs = elim (function_of c.scope f) [
   | None ↦ give []
-  | Some g ↦ entering here.enter g.0 c.tail (vs ++ captured_terms c.env g.1)
+  | Some g ↦ enter_site here.enter g.0 c.tail (vs ++ captured_terms c.env g.1)
 ]
 
 module _ (here : Invocation) where

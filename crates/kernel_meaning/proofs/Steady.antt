@@ -14,7 +14,7 @@ use Rattle.world_model.specs.MapUpdate.{Put, put_each, put_all}
 use Rattle.world_model.specs.Requests.{send_to, call_out, send_or_call, is_send, answers, exit_of}
 use Rattle.world_model.specs.Receive.{timeout_of, Tried}
 use Rattle.world_model.specs.RemoteCalls.{call_erlang, call_terms, apply_term, raise_again}
-use Rattle.world_model.specs.Entries.{entering}
+use Rattle.world_model.specs.Entries.{enter_site}
 use Rattle.step_machine.specs.Bodies.{BodyMeaning, here_of, callees}
 use Rattle.core_meaning.specs.SegmentMatch.{if_there, match_segs}
 use Rattle.core_meaning.specs.ClauseChoice.{blank, is_true, none_tried, and_cuts}
@@ -23,7 +23,7 @@ use Rattle.core_meaning.specs.Evaluation.{bits_or_badarg, build_each}
 use Rattle.kernel_form.specs.Kernel.{Simple, value, cons, tuple, map_put, bits, make_fun, bif, local, apply, remote, send, trace, raise, failing, Expr, values, simple, let_in, match_in, try, catch, receive, Tree, body, fall, either_in, switch, segments, step, guarded, case, Cases, no_case, and_case, seg_row, SegRows, no_row, and_row, Fun}
 use Rattle.kernel_meaning.specs.Environment.{Env, no_values, with_value, with_values, Rests, no_rests, read, read_all, read_pairs, read_parts, Setting}
 use Rattle.kernel_meaning.specs.PatternMatch.{with_bindings, segments_of}
-use Rattle.kernel_meaning.specs.Steps.{simply, parts_of, bin_step}
+use Rattle.kernel_meaning.specs.Steps.{simply, shape_parts, bin_step}
 use Rattle.kernel_meaning.specs.KernelRun.{Falls, no_falls, with_fall, taken, select, if_holds, or_stuck, matched, is_marked, meaning, tree_does, cases_do, rows_do, fun_does}
 use Rattle.pass_contract.specs.SameRun.{SameState, SameResult, Agree, EntersAgree}
 use Rattle.kernel_meaning.specs.Agreement.{OptionAgrees, TriedAgrees}
@@ -177,7 +177,7 @@ marking_agrees true m k h = bind_agrees _ _ _ _ h (λ vs s t e. record {
 -- The calls of a function, where what it enters agrees.
 
 module _ (name : Name) (own : Term) (f g : ℕ → Values → M Term) (enters : EntersAgree f g) where
-  entering_agrees : (n : ℕ) (tail : Bool) (vs : Values) → Agree (entering f n tail vs) (entering g n tail vs)
+  entering_agrees : (n : ℕ) (tail : Bool) (vs : Values) → Agree (enter_site f n tail vs) (enter_site g n tail vs)
   entering_agrees n tail vs = bind_agrees _ _ _ _ (left_agrees _ _ _ (enters n vs)) single_agrees
 
   apply_agrees : (ws : List ℕ) (t : Term) (vs : Values) → Agree (apply_term (callees ws (here_of name own f)) t vs) (apply_term (callees ws (here_of name own g)) t vs)
@@ -251,7 +251,7 @@ module _ (name : Name) (own : Term) (f g : ℕ → Values → M Term) (enters : 
       cases_agree : (cs : Cases) (u : Term) (env : Env) (r : Rests) (tail : Bool) (fs gs : Falls) → FallsAgree fs gs → (a b : Tried Values) → TriedAgrees a b → TriedAgrees (cases_do w (here_of name own f) cs u env r tail fs a) (cases_do w (here_of name own g) cs u env r tail gs b)
       cases_agree no_case u env r tail fs gs h a b i = i
       cases_agree (and_case (case s xs t) cs) u env r tail fs gs h a b i =
-          parts_agree (parts_of s env u) _ _ _ _ (λ vs. tree_agrees t (with_values env xs vs) r tail fs gs h) (cases_agree cs u env r tail fs gs h a b i)
+          parts_agree (shape_parts s env u) _ _ _ _ (λ vs. tree_agrees t (with_values env xs vs) r tail fs gs h) (cases_agree cs u env r tail fs gs h a b i)
 
       rows_agree : (rs : SegRows) (u : Term) (env : Env) (r : Rests) (tail : Bool) (fs gs : Falls) → FallsAgree fs gs → (a b : Tried Values) → TriedAgrees a b → TriedAgrees (rows_do w (here_of name own f) rs u env r tail fs a) (rows_do w (here_of name own g) rs u env r tail gs b)
       rows_agree no_row u env r tail fs gs h a b i = i

@@ -20,7 +20,7 @@ use Rattle.core_meaning.specs.CoreRun.{Result, ended, start}
 use Rattle.kernel_form.specs.Kernel.{remote, Segs, Expr, values, simple, let_in, match_in, try, catch, receive, Tree, body, fall, either_in, switch, segments, step, guarded, case, Cases, no_case, and_case, seg_row, SegRows, and_row, Row, Fun, Kernel}
 use Rattle.kernel_meaning.specs.Environment.{Env, no_values, with_value, with_values, Rests, no_rests, read, read_all, Setting, reference_of, is_marking_variable}
 use Rattle.kernel_meaning.specs.PatternMatch.{with_bindings, segments_of, each_made, match_all, all_cuts}
-use Rattle.kernel_meaning.specs.Steps.{simply, parts_of, BitsResult, bin_step}
+use Rattle.kernel_meaning.specs.Steps.{simply, shape_parts, BitsResult, bin_step}
 
 -- where a fall goes, with the contexts as they are then; nothing is tried where no `either_in` has its number
 abbrev pub Falls : Type 0
@@ -77,7 +77,7 @@ marked_reference w n env = elim (reference_of w.marks n) [ None ↦ None | Some 
 
 module _ (w : Setting) (here : Here) where
   unfoldable mutual
-    unfolding simply parts_of bin_step same_term
+    unfolding simply shape_parts bin_step same_term
 
     -- from left to right; tail: whether it stands in tail position
     pub meaning : Expr → Env → Bool → M Values
@@ -112,7 +112,7 @@ module _ (w : Setting) (here : Here) where
     pub cases_do : Cases → Term → Env → Rests → Bool → Falls → Tried Values → Tried Values
     cases_do no_case u env r tail fs rest = rest
     cases_do (and_case (case h xs t) cs) u env r tail fs rest =
-        if_there (parts_of h env u) (λ vs. tree_does t (with_values env xs vs) r tail fs)
+        if_there (shape_parts h env u) (λ vs. tree_does t (with_values env xs vs) r tail fs)
         (cases_do cs u env r tail fs rest)
 
     -- the first row whose segments match

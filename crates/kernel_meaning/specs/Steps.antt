@@ -13,7 +13,7 @@ use Rattle.world_model.specs.Meaning.{single}
 use Rattle.world_model.specs.MapUpdate.{put_all}
 use Rattle.world_model.specs.Requests.{answers, send_to}
 use Rattle.world_model.specs.RemoteCalls.{call_terms, apply_term, raise_again}
-use Rattle.world_model.specs.Entries.{entering}
+use Rattle.world_model.specs.Entries.{enter_site}
 use Rattle.step_machine.specs.Bodies.{Here, callees}
 use Rattle.core_meaning.specs.Evaluation.{build_each, bits_or_badarg}
 use Rattle.kernel_form.specs.Kernel.{Simple, value, cons, tuple, map_put, bits, make_fun, bif, local, apply, remote, send, trace, raise, failing, Shape, is, is_cons, is_tuple, map_has, BinStep, start, integer, take_bits, done, mark, back, Seg, seg}
@@ -34,7 +34,7 @@ simply w here (map_put v ps) env tail = put_all (read_pairs env ps) (read env v)
 simply w here (bits ps) env tail = bits_or_badarg (build_each (read_parts env ps))
 simply w here (make_fun n vs) env tail = single (fun_of w.widths here n (read_all env vs))
 simply w here (bif b vs) env tail = answers (answer b here.own (read_all env vs))
-simply w here (local n vs) env tail = entering here.enter n tail (read_all env vs)
+simply w here (local n vs) env tail = enter_site here.enter n tail (read_all env vs)
 simply w here (apply v vs) env tail = apply_term (callees w.widths here) (read env v) (read_all env vs)
 simply w here (remote m f vs) env tail = call_terms here.own (read env m) (read env f) (read_all env vs)
 simply w here (send to v) env tail = send_to (read env to) (read env v)
@@ -43,13 +43,13 @@ simply w here (raise v r) env tail = raise_again (read env v) (read env r)
 simply w here (failing v) env tail = fail T.error (read env v)
 
 -- the parts of a term that has the shape
-unfoldable pub parts_of : Shape → Env → Term → Option Values
+unfoldable pub shape_parts : Shape → Env → Term → Option Values
 unfolding same_term
-parts_of (is t) env u = if same_term t u then Some [] else None
-parts_of is_cons env (T.cons x y) = Some (x ∷ y ∷ [])
-parts_of (is_tuple n) env (T.tuple ts) = if eqb n (length (listed ts)) then Some (listed ts) else None
-parts_of (map_has v) env (T.map ps) = elim (value_at ps (read env v)) [ None ↦ None | Some t ↦ Some (t ∷ []) ]
-parts_of _ env _ = None
+shape_parts (is t) env u = if same_term t u then Some [] else None
+shape_parts is_cons env (T.cons x y) = Some (x ∷ y ∷ [])
+shape_parts (is_tuple n) env (T.tuple ts) = if eqb n (length (listed ts)) then Some (listed ts) else None
+shape_parts (map_has v) env (T.map ps) = elim (value_at ps (read env v)) [ None ↦ None | Some t ↦ Some (t ∷ []) ]
+shape_parts _ env _ = None
 
 -- What a step on bits comes to: what is bound and how many sub-binaries it makes where it succeeds, and in either case
 -- the contexts as they are then.

@@ -4,7 +4,7 @@ use Rattle.erl_base.specs.Names.{Name}
 use Rattle.erl_term.specs.Term.{Term}
 use Rattle.erl_term.specs.Terms.{Values}
 use Rattle.world_model.specs.Run.{spent, M}
-use Rattle.world_model.specs.Entries.{counted, entering}
+use Rattle.world_model.specs.Entries.{counted, enter_site}
 use Rattle.world_model.specs.RemoteCalls.{Callees}
 
 -- what is fixed while a body runs, and how another function is entered
@@ -39,5 +39,5 @@ abbrev pub callees : List ℕ → Here → Callees
 callees widths here = record {
   name = here.name;
   parameters = λ n. slice_get widths n;
-  enter = λ n vs. entering here.enter n false vs;
+  enter = λ n vs. enter_site here.enter n false vs;
 }

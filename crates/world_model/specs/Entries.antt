@@ -15,5 +15,5 @@ abbrev pub counted : {A : Type 0} → Entry → M A → M A
 counted e go = λ s. entry_left s.left e go s
 
 -- a call of the function at a site; a tail entry is a call by name in tail position
-abbrev pub entering : (ℕ → Values → M Term) → ℕ → Bool → Values → M Values
-entering enter site tail vs = counted (record { site = site; tail = tail }) (enter site vs) >>= single
+abbrev pub enter_site : (ℕ → Values → M Term) → ℕ → Bool → Values → M Values
+enter_site enter site tail vs = counted (record { site = site; tail = tail }) (enter site vs) >>= single
