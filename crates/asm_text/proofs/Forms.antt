@@ -10,7 +10,8 @@ use Rattle.beam_table.specs.ValidModule.{every, all_labels, labels_in}
 use Rattle.term_text.specs.Atoms.{is_plain_name}
 use Rattle.term_text.specs.TermText.{term_on, rest_on}
 use Rattle.term_text.specs.Printing.{Adds}
-use Rattle.asm_text.specs.AssemblyText.{key_term, code_on, insn_on, head_on, funs_on, greatest, insn_has_text, fun_has_text}
+use Rattle.beam_table.specs.ModuleForms.{key_term, greatest}
+use Rattle.asm_text.specs.AssemblyText.{code_on, insn_on, head_on, funs_on, insn_has_text, fun_has_text}
 use Rattle.asm_text.proofs.Rows.{rest_on-nil, rest_on-cons}
 
 pub other_added : (ks others : List FunKey) (k : FunKey) (old mid new : List ℕ) (start : List ℕ → List ℕ) → ks ≡ k ∷ others

@@ -12,7 +12,8 @@ use Rattle.beam_table.specs.Code as C
 use Rattle.beam_table.specs.Code.{Reg, x_reg, y_reg, Source, move, return, AsmFun, AsmModule}
 use Rattle.beam_table.specs.InstructionText.{register_term, source_term}
 use Rattle.beam_table.specs.ValidModule.{all_labels}
-use Rattle.asm_text.specs.AssemblyText.{insn_on, head_on, first_on, key_term, greatest}
+use Rattle.beam_table.specs.ModuleForms.{key_term, greatest}
+use Rattle.asm_text.specs.AssemblyText.{insn_on, head_on, first_on}
 
 -- a plain name is its own text
 pub atom_text-plain : (a : Name) → IsTrue (is_plain_name a) → atom_text a ≡ a

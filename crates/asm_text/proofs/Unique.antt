@@ -15,7 +15,8 @@ use Rattle.term_text.specs.Atoms.{is_name_character, is_plain_name, atom_text}
 use Rattle.term_text.specs.Decimal.{decimal_on}
 use Rattle.term_text.specs.TermText.{term_on, rest_on}
 use Rattle.term_text.proofs.Digits.{decimal_unique, integer_unique}
-use Rattle.asm_text.specs.AssemblyText.{insn_on, code_on, head_on, funs_on, key_term, printed, source_has_text, insn_has_text, fun_has_text, HasText, AssemblyText}
+use Rattle.beam_table.specs.ModuleForms.{key_term}
+use Rattle.asm_text.specs.AssemblyText.{insn_on, code_on, head_on, funs_on, printed, source_has_text, insn_has_text, fun_has_text, HasText, AssemblyText}
 use Rattle.asm_text.proofs.Forms.{first_true, others_true}
 use Rattle.asm_text.proofs.Rows.{atom_text-plain, term_on-nil, term_on-cons, rest_on-nil, rest_on-cons, term_on-key, term_on-x, term_on-y, term_on-atom, term_on-integer, insn_on-move, insn_on-return, head_on-text, first_on-text}
 

@@ -1,18 +1,16 @@
 -- The text of an assembly module, and the module that a text has. A text is a sequence of forms, each a term and a
 -- full stop, one on a line; the text of a term is term_text's. What ends in `_on` gives the characters of its subject,
 -- and then `r`.
-use Rattle.std.specs.Prelude.{◌≡◌, ℕ, ◌+◌, max, List, [], ◌∷◌, ◌++◌, map, Bool, true, false, ◌&&◌, IsTrue, codes, encode_utf8_all}
+use Rattle.std.specs.Prelude.{◌≡◌, ℕ, List, [], ◌∷◌, ◌++◌, Bool, true, false, ◌&&◌, IsTrue, codes, encode_utf8_all}
 use Rattle.erl_base.specs.Names.{Name}
-use Rattle.erl_base.specs.declared.ids.FunKey.{FunKey}
-use Rattle.erl_term.specs.Term as T
 use Rattle.erl_term.specs.Term.{Term}
-use Rattle.erl_term.specs.Terms.{terms, list_of}
 use Rattle.term_text.specs.Atoms.{is_plain_name}
 use Rattle.term_text.specs.TermText.{term_on}
 use Rattle.beam_table.specs.Code as C
 use Rattle.beam_table.specs.Code.{Source, reg, Insn, move, return, AsmFun, AsmModule}
-use Rattle.beam_table.specs.InstructionText.{number, tagged, form}
-use Rattle.beam_table.specs.ValidModule.{every, all_labels, Valid}
+use Rattle.beam_table.specs.InstructionText.{form}
+use Rattle.beam_table.specs.ModuleForms.{module_form, exports_form, attributes_form, labels_form, function_form, func_info_form}
+use Rattle.beam_table.specs.ValidModule.{every, Valid}
 
 -- Forms.
 
@@ -27,18 +25,6 @@ abbrev pub code_on : List Insn → List ℕ → List ℕ
 code_on [] r = r
 code_on (i ∷ is) r = insn_on i (code_on is r)
 
-abbrev pub tuple_of : List Term → Term
-tuple_of ts = T.tuple (terms ts)
-
-abbrev pub atom_operand : Name → Term
-atom_operand a = tagged (codes "atom") (T.atom a)
-
-abbrev pub function_form : AsmFun → Term
-function_form f = tuple_of (T.atom (codes "function") ∷ T.atom f.key.name ∷ number f.key.arity ∷ number f.entry ∷ [])
-
-abbrev pub func_info_form : Name → FunKey → Term
-func_info_form m f = tuple_of (T.atom (codes "func_info") ∷ atom_operand m ∷ atom_operand f.name ∷ number f.arity ∷ [])
-
 abbrev pub head_on : Name → AsmFun → List ℕ → List ℕ
 head_on m f r =
     codes "\n" ++ line_on [] (function_form f)
@@ -50,19 +36,12 @@ abbrev pub funs_on : Name → List AsmFun → List ℕ → List ℕ
 funs_on m [] r = r
 funs_on m (f ∷ fs) r = head_on m f (code_on f.code (funs_on m fs r))
 
-abbrev pub key_term : FunKey → Term
-key_term f = tuple_of (T.atom f.name ∷ number f.arity ∷ [])
-
-abbrev pub greatest : List ℕ → ℕ
-greatest [] = 0
-greatest (l ∷ ls) = max l (greatest ls)
-
 abbrev pub first_on : AsmModule → List ℕ → List ℕ
 first_on a r =
-    line_on [] (tagged (codes "module") (T.atom a.name))
-    (line_on [] (tagged (codes "exports") (list_of (map key_term a.exports) T.nil))
-    (line_on [] (tagged (codes "attributes") T.nil)
-    (line_on [] (tagged (codes "labels") (number (greatest (all_labels a.funs) + 1))) r)))
+    line_on [] (module_form a.name)
+    (line_on [] (exports_form a.exports)
+    (line_on [] (attributes_form [])
+    (line_on [] (labels_form a.funs) r)))
 
 -- the printed text
 unfoldable pub printed : AsmModule → List ℕ

@@ -8,7 +8,8 @@ ghost use Rattle.beam_table.specs.ValidModule.{every, all_labels, labels_in, Val
 ghost use Rattle.term_text.specs.Decimal.{decimal_on};
 ghost use Rattle.term_text.specs.TermText.{term_on, rest_on};
 ghost use Rattle.term_text.specs.Printing.{Adds};
-ghost use Rattle.asm_text.specs.AssemblyText.{line_on, insn_on, code_on, head_on, first_on, key_term, function_form, func_info_form, greatest, printed, source_has_text, insn_has_text, HasText, AssemblyText};
+ghost use Rattle.beam_table.specs.ModuleForms.{key_term, function_form, func_info_form, greatest};
+ghost use Rattle.asm_text.specs.AssemblyText.{line_on, insn_on, code_on, head_on, first_on, printed, source_has_text, insn_has_text, HasText, AssemblyText};
 
 use crate::words::put_str;
 use beam_table::{AsmFun, AsmModule, Insn, Reg, Source};

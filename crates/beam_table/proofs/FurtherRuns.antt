@@ -9,7 +9,8 @@ use Rattle.world_model.specs.World.{Reply, asked, taken}
 use Rattle.step_machine.specs.Steps.{over, happenings, entries, serials, subs}
 use Rattle.beam_table.specs.Code
 use Rattle.beam_table.proofs.Examples.{key, A, I, tup, x0, x1, x2, x3, y0, y1, r, a, i, ext, erl, plain, module_of, script, reply, ok, back, runs, end_of, with_replies, bytes}
-use Rattle.beam_table.specs.Code.{Reg, Insn, label, move, init_yregs, allocate, allocate_heap, deallocate, trim, test_heap, return, put_list, put_tuple2, get_tuple_element, jump, test, is_nil, compares, is_eq_exact, bif, gc_bif, call, call_only, call_last, call_ext, call_ext_last, send, build_stacktrace, case_end, if_end, try, catch, try_end, try_case, catch_end, loop_rec, remove_message, loop_rec_end, wait, wait_timeout, timeout, recv_marker_reserve, recv_marker_bind, recv_marker_use, recv_marker_clear, bs_start_match4, bs_get_integer2, bs_get_tail, bs_get_position, bs_set_position, bs_test_unit, bs_test_tail2, AsmModule}
+use Rattle.bif_table.specs.TermTests.{is_nil, is_eq_exact}
+use Rattle.beam_table.specs.Code.{Reg, Insn, label, move, init_yregs, allocate, allocate_heap, deallocate, trim, test_heap, return, put_list, put_tuple2, get_tuple_element, jump, test, compares, bif, gc_bif, call, call_only, call_last, call_ext, call_ext_last, send, build_stacktrace, case_end, if_end, try, catch, try_end, try_case, catch_end, loop_rec, remove_message, loop_rec_end, wait, wait_timeout, timeout, recv_marker_reserve, recv_marker_bind, recv_marker_use, recv_marker_clear, bs_start_match4, bs_get_integer2, bs_get_tail, bs_get_position, bs_set_position, bs_test_unit, bs_test_tail2, AsmModule}
 use Rattle.beam_table.specs.MachineRun.{asm_run}
 
 -- f(X) -> Y = g(X), {Y}; g(X) -> m:h(X)

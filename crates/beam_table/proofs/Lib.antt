@@ -6,3 +6,4 @@ mod SmallRuns
 mod WholePrograms
 mod FurtherRuns
 mod BadRuns
+mod OpcodeRows

@@ -4,7 +4,7 @@ use Rattle.step_machine.specs.Steps.{bad}
 use Rattle.beam_table.specs.Code.{AsmModule}
 use Rattle.beam_table.specs.MachineState.{Cell, Activation, Machine}
 use Rattle.beam_table.specs.GeneralRules.{Effect, needs, in_frame, if_some, leaves, entry_at}
-use Rattle.beam_table.specs.Calls.{below, enters, function_at, do_call_only}
+use Rattle.beam_table.specs.Calls.{suspended, enters, function_at, do_call_only}
 use Rattle.beam_table.specs.InstructionStep.{act}
 use Rattle.beam_table.specs.StepFacts.{EntersOne, Deeper, LocalCallsEnterOne}
 
@@ -42,8 +42,8 @@ only_enters a n l m = one_none true m.callers m.frame _
 pub local_calls_enter_one : (a : AsmModule) → LocalCallsEnterOne a
 unfolding act
 local_calls_enter_one a = record {
-  call = λ n l m. one_frame false m.callers m.frame _ λ ys. one_leaves false m.callers n m (λ u. function_at a l n λ s f. enters a false s f (take n u.xs) (below u))
-      (one_enters false m.callers a l n (take n m.xs) (below (record m { room = 0 })) (record { frame = m.frame; back = m.code }, refl));
+  call = λ n l m. one_frame false m.callers m.frame _ λ ys. one_leaves false m.callers n m (λ u. function_at a l n λ s f. enters a false s f (take n u.xs) (suspended u))
+      (one_enters false m.callers a l n (take n m.xs) (suspended (record m { room = 0 })) (record { frame = m.frame; back = m.code }, refl));
   only = λ n l m. only_enters a n l m;
   last = λ n l k m. one_none true m.callers m.window _ (one_frame true m.callers m.frame _ λ ys. one_needs true m.callers _ (do_call_only a n l (record m { frame = None })) (only_enters a n l (record m { frame = None })));
 }

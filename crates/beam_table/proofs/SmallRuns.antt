@@ -9,7 +9,8 @@ use Rattle.world_model.specs.World.{asked, taken}
 use Rattle.step_machine.specs.Steps.{over, is_bad, subs}
 use Rattle.beam_table.specs.Code
 use Rattle.beam_table.proofs.Examples.{A, I, tup, x0, x1, x2, y0, y1, r, a, i, ext, erl, plain, script, reply, ok, back, runs, end_of, with_replies, bytes}
-use Rattle.beam_table.specs.Code.{Insn, recv_marker_clear, label, move, swap, init_yregs, allocate, allocate_heap, deallocate, trim, test_heap, return, put_list, put_tuple2, make_fun3, put_map_assoc, put_map_exact, get_list, get_hd, get_tl, get_tuple_element, get_map_elements, has_map_fields, jump, test, is_boolean, is_binary, compares, is_function2, is_ge, test_arity, is_tagged_tuple, select_val, select_tuple_arity, bif, gc_bif, call, call_only, call_ext, call_ext_only, call_ext_last, call_fun, apply, apply_last, send, build_stacktrace, raise, badmatch, case_end, try_case_end, if_end, bs_start_match4, bs_get_integer2, bs_get_binary2, bs_skip_bits2, bs_test_tail2, bs_test_unit, bs_get_tail, bs_get_position, bs_set_position, bs_create_bin}
+use Rattle.bif_table.specs.TermTests.{is_boolean, is_binary, is_function2, is_ge}
+use Rattle.beam_table.specs.Code.{Insn, recv_marker_clear, label, move, swap, init_yregs, allocate, allocate_heap, deallocate, trim, test_heap, return, put_list, put_tuple2, make_fun3, put_map_assoc, put_map_exact, get_list, get_hd, get_tl, get_tuple_element, get_map_elements, has_map_fields, jump, test, compares, test_arity, is_tagged_tuple, select_val, select_tuple_arity, bif, gc_bif, call, call_only, call_ext, call_ext_only, call_ext_last, call_fun, apply, apply_last, send, build_stacktrace, raise, badmatch, case_end, try_case_end, if_end, bs_start_match4, bs_get_integer2, bs_get_binary2, bs_skip_bits2, bs_test_tail2, bs_test_unit, bs_get_tail, bs_get_position, bs_set_position, bs_create_bin}
 use Rattle.beam_table.specs.MachineRun.{asm_run}
 
 -- moves, frames, room

@@ -4,10 +4,11 @@ use Rattle.erl_term.specs.Segments.{segment_value}
 use Rattle.erl_term.specs.Term.{Term, Class}
 use Rattle.world_model.specs.Run.{Entry, raises}
 use Rattle.world_model.specs.World.{Reply, asked}
+use Rattle.step_machine.specs.Frames.{rest_of}
 use Rattle.step_machine.specs.Steps.{Note, happened, entered, examined, sub_binary, goes, ends, bad, notes, asks, Ran, perform, run, sites}
 use Rattle.beam_table.specs.StepFacts.{Entered, Fine, ByEvents, Untagged, RaiseUnwinds}
 use Rattle.beam_table.proofs.Walk.{step_q}
-use Rattle.beam_table.specs.Binaries.{starts, takes_segment, number_shape, shape, write_sub, rest_of, context_in, read_segments, creates}
+use Rattle.beam_table.specs.Binaries.{starts, takes_segment, number_shape, shape, write_sub, context_in, read_segments, creates}
 use Rattle.beam_table.specs.Code.{Insn, allocate, allocate_heap, test_heap, put_map_assoc, put_map_exact, bs_start_match4, bs_get_integer2, bs_get_binary2, bs_get_tail, bs_get_position, bs_create_bin, AsmModule}
 use Rattle.beam_table.specs.Data.{read_pairs, put_in}
 use Rattle.beam_table.specs.GeneralRules.{is_set, all_set, read, read_cell, write, write_term, needs, no_frame, outside_window, collects, tag_of, lands, unwinds, frame_set, answers, Effect}

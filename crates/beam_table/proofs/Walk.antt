@@ -9,21 +9,23 @@ use Rattle.bif_table.specs.Builtins.{lookup, Bif}
 use Rattle.bif_table.specs.BuiltinAnswer.{Answer, value, raised, answer}
 use Rattle.world_model.specs.World as W
 use Rattle.world_model.specs.Receive.{Timeout, now, in', wrong, new_or}
-use Rattle.world_model.specs.Requests.{is_send}
+use Rattle.world_model.specs.Requests.{badarg, is_send}
 use Rattle.world_model.specs.Run.{Entry, Outcome}
 use Rattle.world_model.specs.World.{taken, Request, Reply, Happening, Message, Delay, forever, millis}
+use Rattle.step_machine.specs.Frames.{MatchContext, is_tag, rest_of}
 use Rattle.step_machine.specs.Steps.{happened, entered, examined, sub_binary, goes, ends, bad, notes, asks}
 use Rattle.beam_table.specs.Code
-use Rattle.beam_table.specs.Binaries.{shape, number_shape, rest_of, do_get_integer, if_context, if_position, context_in, write_sub, read_segments, or_no_match, starts, takes, takes_segment, creates}
-use Rattle.beam_table.specs.Calls.{badarg, below, never_returns, frame_unless, enters, function_at, do_call, do_call_only, replied, calls_out, sent, sends, sends_or_calls, answered, erlang_answers, answers_call, call_any, returns, do_call_ext, do_call_ext_only, do_send, do_make_fun, enters_fun, applies, do_call_fun, calls_named, do_apply}
-use Rattle.beam_table.specs.Code.{Reg, x_reg, y_reg, Source, reg, Comparison, Extern, Flags, Segment, Insn, label, func_info, move, swap, init_yregs, allocate, allocate_heap, deallocate, trim, test_heap, return, put_list, put_tuple2, make_fun3, put_map_assoc, put_map_exact, get_list, get_hd, get_tl, get_tuple_element, get_map_elements, has_map_fields, jump, test, compares, test_arity, is_tagged_tuple, select_val, select_tuple_arity, bif, gc_bif, call, call_only, call_last, call_ext, call_ext_only, call_ext_last, call_fun, apply, apply_last, send, build_stacktrace, raise, badmatch, case_end, try_case_end, if_end, try, catch, try_end, try_case, catch_end, loop_rec, remove_message, loop_rec_end, wait, wait_timeout, timeout, recv_marker_reserve, recv_marker_bind, recv_marker_use, recv_marker_clear, bs_start_match4, bs_get_integer2, bs_get_binary2, bs_skip_bits2, bs_test_tail2, bs_test_unit, bs_get_tail, bs_get_position, bs_set_position, bs_create_bin, AsmFun, AsmModule}
+use Rattle.beam_table.specs.Binaries.{shape, number_shape, do_get_integer, if_context, if_position, context_in, write_sub, read_segments, or_no_match, starts, takes, takes_segment, creates}
+use Rattle.beam_table.specs.Calls.{suspended, never_returns, frame_unless, enters, function_at, do_call, do_call_only, replied, calls_out, sent, sends, sends_or_calls, answered, erlang_answers, answers_call, call_any, returns, do_call_ext, do_call_ext_only, do_send, do_make_fun, enters_fun, applies, do_call_fun, calls_named, do_apply}
+use Rattle.bif_table.specs.TermTests.{Comparison}
+use Rattle.beam_table.specs.Code.{Reg, x_reg, y_reg, Source, reg, Extern, Flags, Segment, Insn, label, func_info, move, swap, init_yregs, allocate, allocate_heap, deallocate, trim, test_heap, return, put_list, put_tuple2, make_fun3, put_map_assoc, put_map_exact, get_list, get_hd, get_tl, get_tuple_element, get_map_elements, has_map_fields, jump, test, compares, test_arity, is_tagged_tuple, select_val, select_tuple_arity, bif, gc_bif, call, call_only, call_last, call_ext, call_ext_only, call_ext_last, call_fun, apply, apply_last, send, build_stacktrace, raise, badmatch, case_end, try_case_end, if_end, try, catch, try_end, try_case, catch_end, loop_rec, remove_message, loop_rec_end, wait, wait_timeout, timeout, recv_marker_reserve, recv_marker_bind, recv_marker_use, recv_marker_clear, bs_start_match4, bs_get_integer2, bs_get_binary2, bs_skip_bits2, bs_test_tail2, bs_test_unit, bs_get_tail, bs_get_position, bs_set_position, bs_create_bin, AsmFun, AsmModule}
 use Rattle.beam_table.specs.Data.{do_init, do_allocate, drops, if_cons, if_tuple, if_map, read_pairs, write_all, firsts, seconds, put_in, do_put_map, all_or_jumps, do_get_elements}
-use Rattle.beam_table.specs.GeneralRules.{needs, in_frame, no_frame, if_some, read_reg, read_cell, if_term, read, read_all, arguments, outside_window, write, write_term, alone, collects, leaves, builds, tag_of, entry_at, jumps, lands, unwinds, returns_to, is_tag, with_cell, or_jumps, or_raises, answers, Effect, raising, with_arrivals, asking}
+use Rattle.beam_table.specs.GeneralRules.{tag_in, needs, in_frame, no_frame, if_some, read_reg, read_cell, if_term, read, read_all, arguments, outside_window, write, write_term, alone, collects, leaves, builds, tag_of, entry_at, jumps, lands, unwinds, returns_to, with_cell, or_jumps, or_raises, answers, Effect, raising, with_arrivals, asking}
 use Rattle.beam_table.specs.Handlers.{do_tag, if_tag, ends_tag, do_try_case, if_catch, caught, do_catch_end, do_stacktrace, raises_again, fails}
 use Rattle.beam_table.specs.Inbox.{Inbox, inbox, arrived, taken_out}
 use Rattle.beam_table.specs.InstructionStep.{act, step, step_at, past_labels}
-use Rattle.beam_table.specs.MachineState.{Kind, a_try, a_catch, Cell, unset, killed, term, context, position, marker, tag, Activation, Context, Machine}
-use Rattle.beam_table.specs.Receives.{look_at, look_or, in_window, do_loop_rec, waits_for, waits_until, first_choice, use_marker, if_reference, if_marker, clears}
+use Rattle.beam_table.specs.MachineState.{Kind, a_try, a_catch, Cell, unset, killed, term, context, position, marker, tag, Activation, Machine}
+use Rattle.beam_table.specs.Receives.{look_at, look_or, in_window, do_loop_rec, waits_for, waits_until, if_reference, if_marker}
 use Rattle.beam_table.specs.StepFacts.{Suffix, Deeper}
 use Rattle.beam_table.specs.Tests.{do_has_fields, do_compare, do_select, do_bif, do_gc_bif}
 
@@ -114,13 +116,13 @@ module _ (a : AsmModule) (cs : List Activation) (Q : Effect → Inbox → Type 0
   write_q : (m : Machine) (r : Reg) (c : Cell) (k : Machine → Effect) → At m → ((u : Machine) → At u → Q (k u) (inbox u)) → Q (write m r c k) (inbox m)
   write_q m (x_reg n) c k e h = h _ e
   write_q m (y_reg n) c k e h = outside_q m (in_frame m.frame λ ys. if_some (slice_get ys n) λ old. put ys old)
-      (frame_q m.frame _ λ ys. some_q (slice_get ys n) (λ old. put ys old) λ old. if_needs (not (is_tag old)) _ (h (with_frame ys) e))
+      (frame_q m.frame _ λ ys. some_q (slice_get ys n) (λ old. put ys old) λ old. if_needs (not (is_tag tag_in old)) _ (h (with_frame ys) e))
     where
       with_frame : List Cell → Machine
       with_frame ys = record m { frame = Some (with_cell n c ys) }
 
       put : List Cell → Cell → Effect
-      put ys old = needs (not (is_tag old)) (k (with_frame ys))
+      put ys old = needs (not (is_tag tag_in old)) (k (with_frame ys))
 
   collects_q : (n : ℕ) (m : Machine) (k : Machine → Effect) → At m → ((u : Machine) → At u → Q (k u) (inbox u)) → Q (collects n m k) (inbox m)
   collects_q n m k e h = if_needs _ _ (h _ e)
@@ -319,11 +321,11 @@ module _ (a : AsmModule) (cs : List Activation) (Q : Effect → Inbox → Type 0
   function_q : {w : Inbox} → (l n : ℕ) (k : ℕ → AsmFun → Effect) → ((s : ℕ) (f : AsmFun) → Q (k s f) w) → Q (function_at a l n k) w
   function_q l n k h = some_q (entry_at a.funs l 0) _ λ f. if_needs _ _ (h f.0 f.1)
 
-  enters_below : (s : ℕ) (f : AsmFun) (ds : List Cell) (m : Machine) → At m → Q (enters a false s f ds (below m)) (inbox m)
+  enters_below : (s : ℕ) (f : AsmFun) (ds : List Cell) (m : Machine) → At m → Q (enters a false s f ds (suspended m)) (inbox m)
   enters_below s f ds m e = qentered _ _ (_, ap (λ z. record { frame = m.frame; back = m.code } ∷ z) e)
 
   call_q : (n l : ℕ) (m : Machine) → At m → Q (do_call a n l m) (inbox m)
-  call_q n l m e = frame_q m.frame _ λ ys. leaves_q n m _ e λ u f. function_q l n (λ s g. enters a false s g (take n u.xs) (below u)) λ s g. enters_below s g (take n u.xs) u f
+  call_q n l m e = frame_q m.frame _ λ ys. leaves_q n m _ e λ u f. function_q l n (λ s g. enters a false s g (take n u.xs) (suspended u)) λ s g. enters_below s g (take n u.xs) u f
 
   call_only_q : (n l : ℕ) (m : Machine) → At m → Q (do_call_only a n l m) (inbox m)
   call_only_q n l m e = no_frame_q m _ (leaves_q n m _ e λ u f. function_q l n (λ s g. enters a true s g (take n u.xs) u) λ s g. qentered _ _ f)
@@ -452,17 +454,9 @@ module _ (a : AsmModule) (cs : List Activation) (Q : Effect → Inbox → Type 0
   marker_q (marker n) k h = h n
   marker_q _ k h = qbad
 
-  use_marker_q : (o : Option ℕ) (r : ℕ) (m : Machine) → At m → Q (use_marker o r m) (inbox m)
-  use_marker_q None r m e = here _ e
-  use_marker_q (Some n) r m e = either_q (first_choice m.choices) _ _ (here _ e) (here _ e)
-
-  clears_q : (t : Term) (m : Machine) → At m → Q (clears t m) (inbox m)
-  clears_q (T.reference r) m e = here _ e
-  clears_q _ m e = here m e
-
   -- Bit strings.
 
-  context_q : (m : Machine) (c : Reg) (k : ℕ → Context → Effect) → ((n : ℕ) (w : Context) → Q (k n w) (inbox m)) → Q (context_in m c k) (inbox m)
+  context_q : (m : Machine) (c : Reg) (k : ℕ → MatchContext → Effect) → ((n : ℕ) (w : MatchContext) → Q (k n w) (inbox m)) → Q (context_in m c k) (inbox m)
   context_q m c k h = reg_q m c _ λ v. if_context_q v _ λ n. some_q (slice_get m.contexts n) _ λ w. h n w
     where
       if_context_q : {w : Inbox} → (v : Cell) (f : ℕ → Effect) → ((n : ℕ) → Q (f n) w) → Q (if_context v f) w
@@ -493,7 +487,7 @@ module _ (a : AsmModule) (cs : List Activation) (Q : Effect → Inbox → Type 0
   starts_q o (term t) d m e = starts_term o t d m e
   starts_q o _ d m e = qbad
 
-  takes_q : (o : Option ℕ) (l n : ℕ) (w : Context) (m : Machine) (k : List Bool → Machine → Effect) → At m → ((bs : List Bool) (u : Machine) → At u → Q (k bs u) (inbox u)) → Q (takes a o l n w m k) (inbox m)
+  takes_q : (o : Option ℕ) (l n : ℕ) (w : MatchContext) (m : Machine) (k : List Bool → Machine → Effect) → At m → ((bs : List Bool) (u : Machine) → At u → Q (k bs u) (inbox u)) → Q (takes a o l n w m k) (inbox m)
   takes_q None l n w m k e h = jumps_q l m e
   takes_q (Some j) l n w m k e h = h _ _ e
 
@@ -570,8 +564,8 @@ module _ (a : AsmModule) (cs : List Activation) (Q : Effect → Inbox → Type 0
   act_q timeout m e = outside_q m _ (here _ e)
   act_q (recv_marker_reserve d) m e = write_q m d _ _ e here
   act_q (recv_marker_bind d s) m e = reg_q m d _ λ c. marker_q c _ λ n. read_q m s _ λ t. reference_q t _ λ r. here _ e
-  act_q (recv_marker_use s) m e = outside_q m _ (read_q m s _ λ t. reference_q t _ λ r. use_marker_q _ r m e)
-  act_q (recv_marker_clear s) m e = read_q m s _ λ t. clears_q t m e
+  act_q (recv_marker_use s) m e = outside_q m _ (read_q m s _ λ t. reference_q t _ λ r. here _ e)
+  act_q (recv_marker_clear s) m e = read_q m s _ λ t. here _ e
   act_q (bs_start_match4 o n s d) m e = collects_q n m _ e λ u f. cell_q u s _ λ c. starts_q o c d u f
   act_q (bs_get_integer2 l n c s w z d) m e = get_integer_q l n c s w z d m e
   act_q (bs_get_binary2 l n c s w z d) m e = collects_q n m (λ u. takes_segment a (shape true s w z) l c s u λ bs v. write_sub v d bs) e λ u f. takes_segment_q (shape true s w z) l c s u _ f λ bs v g. write_sub_q v d bs g

@@ -9,7 +9,8 @@ use Rattle.world_model.specs.Run.{gives, raises, waits}
 use Rattle.world_model.specs.World.{Reply, asked, taken, millis, Script}
 use Rattle.step_machine.specs.Steps.{over, unfinished, is_bad, happenings, entries, sites, serials, subs}
 use Rattle.beam_table.proofs.Examples.{key, A, I, tup, x0, x1, x2, y0, y1, r, a, i, ext, erl, plain, module_of, script, reply, ok, back, runs, end_of, with_replies, bytes}
-use Rattle.beam_table.specs.Code.{Insn, label, move, init_yregs, allocate, deallocate, test_heap, return, put_list, put_tuple2, make_fun3, get_tl, get_tuple_element, jump, test, compares, is_nonempty_list, is_nil, is_eq_exact, is_tagged_tuple, gc_bif, call, call_only, call_ext, call_ext_only, call_fun, send, try, catch, try_end, try_case, catch_end, loop_rec, remove_message, loop_rec_end, wait, wait_timeout, timeout, recv_marker_reserve, recv_marker_bind, recv_marker_use, bs_start_match4, bs_get_integer2, bs_test_unit, AsmModule}
+use Rattle.bif_table.specs.TermTests.{is_nonempty_list, is_nil, is_eq_exact}
+use Rattle.beam_table.specs.Code.{Insn, label, move, init_yregs, allocate, deallocate, test_heap, return, put_list, put_tuple2, make_fun3, get_tl, get_tuple_element, jump, test, compares, is_tagged_tuple, gc_bif, call, call_only, call_ext, call_ext_only, call_fun, send, try, catch, try_end, try_case, catch_end, loop_rec, remove_message, loop_rec_end, wait, wait_timeout, timeout, recv_marker_reserve, recv_marker_bind, recv_marker_use, bs_start_match4, bs_get_integer2, bs_test_unit, AsmModule}
 use Rattle.beam_table.specs.MachineRun.{asm_run}
 
 -- a literal is given in two steps

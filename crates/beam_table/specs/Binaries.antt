@@ -1,14 +1,14 @@
 -- Matching bit strings by contexts, and building them.
-use Rattle.std.specs.Prelude.{ℕ, zero, suc, ◌+◌, ◌%◌, List, [], ◌∷◌, ◌++◌, length, slice_get, take, drop, min, Bool, true, false, eqb, Option, Some, None, codes}
+use Rattle.std.specs.Prelude.{ℕ, ◌+◌, ◌%◌, List, [], ◌∷◌, ◌++◌, length, slice_get, take, min, Bool, true, false, eqb, Option, Some, None, codes}
 use Rattle.erl_base.specs.Names.{same_name}
 use Rattle.erl_term.specs.Term as T
 use Rattle.erl_term.specs.Segments.{Shape, joined, built, taken_size, segment_value}
-use Rattle.erl_term.specs.Term.{Term}
+use Rattle.step_machine.specs.Frames.{MatchContext, rest_of, moved}
 use Rattle.step_machine.specs.Steps.{goes, bad, notes, sub_binary}
 use Rattle.beam_table.specs.Code as C
-use Rattle.beam_table.specs.Calls.{badarg}
+use Rattle.world_model.specs.Requests.{badarg}
 use Rattle.beam_table.specs.Code.{Reg, Source, Flags, Segment, AsmModule}
-use Rattle.beam_table.specs.MachineState.{Cell, Context, Machine, term, context, position}
+use Rattle.beam_table.specs.MachineState.{Cell, Machine, term, context, position}
 use Rattle.beam_table.specs.GeneralRules.{Effect, if_some, read_reg, read_cell, read, write, write_term, collects, jumps, or_jumps, or_raises}
 
 -- the operand `{atom,all}`, and no other one that holds this atom
@@ -16,34 +16,30 @@ abbrev pub is_whole : Source → Bool
 is_whole (C.atom a) = same_name a (codes "all")
 is_whole _ = false
 
+-- what a segment says beside its value
 abbrev pub shape : Bool → Source → ℕ → Flags → Shape
 shape binary size unit fs = record { unit = unit; is_binary = binary; signed = fs.signed; little = fs.little; whole = is_whole size }
 
+-- of a number
 abbrev pub number_shape : ℕ → Flags → Shape
 number_shape unit fs = record { unit = unit; is_binary = false; signed = fs.signed; little = fs.little; whole = false }
 
-abbrev pub rest_of : Context → List Bool
-rest_of w = drop w.at w.bits
-
--- context n at another position
-abbrev pub moved : ℕ → ℕ → List Context → List Context
-moved n p [] = []
-moved zero p (w ∷ ws) = record w { at = p } ∷ ws
-moved (suc n) p (w ∷ ws) = w ∷ moved n p ws
-
+-- the same in the machine
 abbrev pub at_position : ℕ → ℕ → Machine → Machine
 at_position n p m = record m { contexts = moved n p m.contexts }
 
+-- a context is wanted
 abbrev pub if_context : Cell → (ℕ → Effect) → Effect
 if_context (context n) k = k n
 if_context _ k = bad
 
+-- a position is wanted
 abbrev pub if_position : Cell → (ℕ → Effect) → Effect
 if_position (position p) k = k p
 if_position _ k = bad
 
 -- the context that a register holds, with its number
-abbrev pub context_in : Machine → Reg → (ℕ → Context → Effect) → Effect
+abbrev pub context_in : Machine → Reg → (ℕ → MatchContext → Effect) → Effect
 context_in m c k = read_reg m c λ v. if_context v λ n. if_some (slice_get m.contexts n) λ w. k n w
 
 -- a sub-binary
@@ -63,12 +59,14 @@ abbrev pub do_set_position : Reg → Reg → Machine → Effect
 do_set_position c r m = context_in m c λ n w. read_reg m r λ v. if_position v λ p.
     goes (at_position n (min p (length w.bits)) m)
 
+-- all values and sizes are read; the bits of all segments in a row, or none where one has no bits
 abbrev pub read_segments : Machine → List Segment → (Option (List Bool) → Effect) → Effect
 read_segments m [] k = k (Some [])
 read_segments m (g ∷ gs) k = read m g.value λ t. read m g.size λ u. read_segments m gs λ o.
     k (joined (built (shape g.is_binary g.size g.unit g.flags) t u) o)
 
 module _ (a : AsmModule) where
+  -- no match
   abbrev pub or_no_match : Option ℕ → Machine → Effect
   or_no_match None m = bad
   or_no_match (Some l) m = jumps a l m
@@ -85,7 +83,8 @@ module _ (a : AsmModule) where
   abbrev pub do_start_match : Option ℕ → ℕ → Source → Reg → Machine → Effect
   do_start_match l live s d m = collects live m λ u. read_cell u s λ c. starts l c d u
 
-  abbrev pub takes : Option ℕ → ℕ → ℕ → Context → Machine → (List Bool → Machine → Effect) → Effect
+  -- the bits of a segment, if there are so many
+  abbrev pub takes : Option ℕ → ℕ → ℕ → MatchContext → Machine → (List Bool → Machine → Effect) → Effect
   takes None l n w m k = jumps a l m
   takes (Some j) l n w m k = k (take j (rest_of w)) (at_position n (w.at + j) m)
 
@@ -118,6 +117,7 @@ module _ (a : AsmModule) where
   abbrev pub do_test_unit : ℕ → Reg → ℕ → Machine → Effect
   do_test_unit l c j m = context_in m c λ n w. or_jumps a (eqb (length (rest_of w) % j) 0) l m
 
+  -- the bits that are built, or a raise
   abbrev pub creates : Option (List Bool) → Option ℕ → Reg → Machine → Effect
   creates None l d m = or_raises a l T.error badarg m
   creates (Some bs) l d m = write_term m d (T.bits bs) goes

@@ -1,33 +1,28 @@
 -- Calls of functions, of other modules and of funs; returns.
-use Rattle.std.specs.Prelude.{ℕ, suc, ◌+◌, ◌-◌, List, [], ◌∷◌, ◌++◌, length, slice_get, get_or, take, Bool, true, false, not, ◌&&◌, eqb, leb, Option, Some, None, if◌then◌else◌, codes}
+use Rattle.std.specs.Prelude.{ℕ, suc, ◌+◌, ◌-◌, List, [], ◌∷◌, ◌++◌, length, slice_get, get_or, take, Bool, true, false, ◌&&◌, eqb, leb, Option, Some, None, if◌then◌else◌, codes}
 use Rattle.erl_base.specs.Names.{Name, same_name}
 use Rattle.erl_term.specs.Term as T
 use Rattle.erl_term.specs.Term.{Term, none, more}
-use Rattle.erl_term.specs.Terms.{terms, listed, word, tagged, list_of}
-use Rattle.bif_table.specs.Builtins.{Bif, is_guard, lookup}
+use Rattle.erl_term.specs.Terms.{terms, listed, tagged, list_of}
+use Rattle.bif_table.specs.Builtins.{lookup, raises_always}
 use Rattle.bif_table.specs.BuiltinAnswer.{Answer, value, raised, answer}
 use Rattle.world_model.specs.World as W
-use Rattle.world_model.specs.Requests.{is_send}
+use Rattle.world_model.specs.Requests.{badarg, is_send}
 use Rattle.world_model.specs.World.{Reply}
 use Rattle.step_machine.specs.Steps.{goes, notes, entered}
 use Rattle.beam_table.specs.Code.{Reg, x_reg, Source, reg, Extern, AsmFun, AsmModule}
 use Rattle.beam_table.specs.MachineState.{Cell, Machine, unset}
 use Rattle.beam_table.specs.GeneralRules.{Effect, needs, in_frame, no_frame, if_some, if_term, read, read_all, arguments, cells, outside_window, write_term, alone, leaves, builds, entry_at, raising, asking, returns_to}
 
-abbrev pub badarg : Term
-badarg = word (codes "badarg")
-
 -- the running activation waits above the one that comes
-abbrev pub below : Machine → Machine
-below m = record m { callers = record { frame = m.frame; back = m.code } ∷ m.callers; frame = None }
+abbrev pub suspended : Machine → Machine
+suspended m = record m { callers = record { frame = m.frame; back = m.code } ∷ m.callers; frame = None }
 
-abbrev pub some_raises : Option Bif → Bool
-some_raises None = false
-some_raises (Some b) = not (is_guard b)
-
+-- a function of the module erlang that always raises
 abbrev pub never_returns : Extern → Bool
-never_returns e = same_name e.mod_name (codes "erlang") && some_raises (lookup e.name e.arity)
+never_returns e = same_name e.mod_name (codes "erlang") && raises_always e.name e.arity
 
+-- needs a frame but in this case
 abbrev pub frame_unless : Bool → Machine → Effect → Effect
 frame_unless true m a = a
 frame_unless false m a = in_frame m.frame λ ys. a
@@ -43,7 +38,7 @@ module _ (a : AsmModule) where
 
   -- {call,A,L}: needs a frame, leaves, and enters the function of arity A at L in a new activation
   abbrev pub do_call : ℕ → ℕ → Machine → Effect
-  do_call n l m = in_frame m.frame λ ys. leaves n m λ u. function_at l n λ s f. enters false s f (take n u.xs) (below u)
+  do_call n l m = in_frame m.frame λ ys. leaves n m λ u. function_at l n λ s f. enters false s f (take n u.xs) (suspended u)
 
   -- {call_only,A,L}: needs no frame; the same in place of this activation
   abbrev pub do_call_only : ℕ → ℕ → Machine → Effect
@@ -75,11 +70,13 @@ module _ (a : AsmModule) where
   abbrev pub sends : Term → Term → Machine → (Term → Machine → Effect) → Effect
   sends to message m k = asking (W.send to message) m λ r u. sent message r u k
 
+  -- a function of the module erlang that is not listed
   abbrev pub sends_or_calls : Name → List Term → Machine → (Term → Machine → Effect) → Effect
   sends_or_calls g (to ∷ message ∷ []) m k =
       if is_send g then sends to message m k else calls_out (codes "erlang") g (to ∷ message ∷ []) m k
   sends_or_calls g ts m k = calls_out (codes "erlang") g ts m k
 
+  -- what a listed function answers
   abbrev pub answered : Answer → Machine → (Term → Machine → Effect) → Effect
   answered (value t) m k = k t m
   answered (raised c r) m k = raising a c r m
@@ -103,6 +100,7 @@ module _ (a : AsmModule) where
   unfolding answers_call
   call_any n e m k = leaves n m λ u. arguments n u.xs λ ts. answers_call e.mod_name e.name ts u k
 
+  -- back to the caller
   abbrev pub returns : Term → Machine → Effect
   returns t m = returns_to m.callers t m
 
@@ -133,6 +131,7 @@ module _ (a : AsmModule) where
       needs (eqb f.entry l && leb (length ss) f.key.arity) (builds (4 + length ss) m λ u. read_all u ss λ ts.
       write_term u d (T.fun a.name s (f.key.arity - length ss) (terms ts)) goes)
 
+  -- the reason of a call with another number of arguments
   abbrev pub badarity : Term → List Term → Term
   badarity t ts = tagged (codes "badarity") (T.tuple (more t (more (list_of ts T.nil) none)))
 
@@ -141,12 +140,13 @@ module _ (a : AsmModule) where
   with_arity None n = None
   with_arity (Some f) n = if eqb f.key.arity n then Some f else None
 
+  -- function s of this module, if it is there with n parameters
   abbrev pub own_function : Name → ℕ → ℕ → Option AsmFun
   own_function m s n = if same_name m a.name then with_arity (slice_get a.funs s) n else None
 
   -- enters a fun of this module; any other one is called by the world
   abbrev pub enters_fun : Option AsmFun → Term → ℕ → List Term → List Term → Machine → Effect
-  enters_fun (Some f) t s ts us m = enters false s f (cells (ts ++ us)) (below m)
+  enters_fun (Some f) t s ts us m = enters false s f (cells (ts ++ us)) (suspended m)
   enters_fun None t s ts us m = calls_out (codes "erlang") (codes "apply") (t ∷ list_of ts T.nil ∷ []) m alone
 
   -- what a term does with arguments: a fun of this module is entered with its captures after them, any other fun is

@@ -4,7 +4,9 @@ use Rattle.erl_base.specs.Names.{Name}
 use Rattle.erl_base.specs.declared.ids.FunKey.{FunKey}
 use Rattle.erl_term.specs.Term.{Term}
 use Rattle.bif_table.specs.Builtins.{Bif}
+use Rattle.bif_table.specs.TermTests.{TypeTest, Comparison}
 
+-- X registers belong to the run, Y registers are the slots of the current frame
 pub data Reg : Type 0 where
   x_reg y_reg : ℕ → Reg
 
@@ -16,18 +18,13 @@ pub data Source : Type 0 where
   nil : Source
   literal : Term → Source
 
-pub data TypeTest : Type 0 where
-  is_atom is_integer is_number is_list is_nonempty_list is_nil is_tuple is_binary is_bitstr is_boolean is_function is_map is_pid is_port is_reference : TypeTest
-
-pub data Comparison : Type 0 where
-  is_eq_exact is_ne_exact is_eq is_ne is_lt is_ge is_function2 : Comparison
-
 -- a function of any module
 pub record Extern : Type 0 where
   pub mod_name : Name
   pub name : Name
   pub arity : ℕ
 
+-- how the bits of a segment are read as a number; unsigned and big where neither is set
 pub record Flags : Type 0 where
   pub signed : Bool
   pub little : Bool
@@ -133,6 +130,7 @@ pub record AsmFun : Type 0 where
   pub entry : ℕ
   pub code : List Insn
 
+-- a module; an export means the first function of its name and arity
 pub record AsmModule : Type 0 where
   pub name : Name
   pub exports : List FunKey

@@ -1,19 +1,21 @@
 -- Moves, frames and heap room, building, and taking apart.
 use Rattle.std.specs.Prelude.{ℕ, suc, ◌+◌, List, [], ◌∷◌, length, map, slice_get, take, drop, replicate, Bool, not, ◌&&◌, eqb, Option, Some, None, if◌then◌else◌, codes}
 use Rattle.erl_term.specs.Term as T
-use Rattle.erl_term.specs.Term.{Term, Pairs, more, Class}
+use Rattle.erl_term.specs.Term.{Term, Pairs}
 use Rattle.erl_term.specs.TermOrder.{same_term}
 use Rattle.erl_term.specs.Terms.{terms, listed, value_at, is_there, tagged, put}
 use Rattle.bif_table.specs.BuiltinAnswer.{Answer, value, raised}
+use Rattle.step_machine.specs.Frames.{is_tag, no_tags}
 use Rattle.step_machine.specs.Steps.{goes, bad}
 use Rattle.beam_table.specs.Code.{Reg, y_reg, Source, AsmModule}
 use Rattle.beam_table.specs.MachineState.{Cell, Machine, unset, killed}
-use Rattle.beam_table.specs.GeneralRules.{Effect, needs, is_set, is_tag, no_tags, in_frame, no_frame, if_some, read_reg, read_cell, read, read_all, outside_window, write, write_term, collects, builds, jumps, answers}
+use Rattle.beam_table.specs.GeneralRules.{Effect, needs, is_set, tag_in, in_frame, no_frame, if_some, read_reg, read_cell, read, read_all, outside_window, write, write_term, collects, builds, jumps, answers}
 
 -- Moves.
 
+-- what may be moved
 abbrev pub is_movable : Cell → Bool
-is_movable c = is_set c && not (is_tag c)
+is_movable c = is_set c && not (is_tag tag_in c)
 
 -- {move,S,D}: D := S, of any kind but a tag; S is set
 abbrev pub do_move : Source → Reg → Machine → Effect
@@ -39,12 +41,12 @@ do_allocate n w live m =
 
 -- drops a frame of n slots without a tag
 abbrev pub drops : ℕ → Machine → (Machine → Effect) → Effect
-drops n m k = outside_window m (in_frame m.frame λ ys. needs (eqb (length ys) n && no_tags ys) (k (record m { frame = None })))
+drops n m k = outside_window m (in_frame m.frame λ ys. needs (eqb (length ys) n && no_tags tag_in ys) (k (record m { frame = None })))
 
 -- {trim,N,R}: of N + R slots the lowest N, which hold no tag, go; the others move down
 abbrev pub do_trim : ℕ → ℕ → Machine → Effect
 do_trim n r m = outside_window m (in_frame m.frame λ ys.
-    needs (eqb (length ys) (n + r) && no_tags (take n ys)) (goes (record m { frame = Some (drop n ys) })))
+    needs (eqb (length ys) (n + r) && no_tags tag_in (take n ys)) (goes (record m { frame = Some (drop n ys) })))
 
 -- {test_heap,W,Live}: collects; then room for W words
 abbrev pub do_test_heap : ℕ → ℕ → Machine → Effect
@@ -61,6 +63,7 @@ abbrev pub do_put_tuple : Reg → List Source → Machine → Effect
 do_put_tuple d ss m =
     builds (suc (length ss)) m λ u. read_all u ss λ ts. write_term u d (T.tuple (terms ts)) goes
 
+-- keys with values
 abbrev pub read_pairs : Machine → List (Source × Source) → (List (Term × Term) → Effect) → Effect
 read_pairs m [] k = k []
 read_pairs m (p ∷ ps) k = read m p.0 λ t. read m p.1 λ u. read_pairs m ps λ qs. k ((t, u) ∷ qs)
@@ -82,6 +85,7 @@ put_in exact qs t = raised T.error (tagged (codes "badmap") t)
 
 -- Taking apart.
 
+-- a list with an item is wanted
 abbrev pub if_cons : Term → (Term → Term → Effect) → Effect
 if_cons (T.cons t u) k = k t u
 if_cons _ k = bad
@@ -98,6 +102,7 @@ do_get_hd s d m = read m s λ l. if_cons l λ t r. write_term m d t goes
 abbrev pub do_get_tl : Source → Reg → Machine → Effect
 do_get_tl s d m = read m s λ l. if_cons l λ t r. write_term m d r goes
 
+-- a tuple is wanted
 abbrev pub if_tuple : Term → (List Term → Effect) → Effect
 if_tuple (T.tuple ts) k = k (listed ts)
 if_tuple _ k = bad
@@ -106,10 +111,12 @@ if_tuple _ k = bad
 abbrev pub do_get_element : Source → ℕ → Reg → Machine → Effect
 do_get_element s n d m = read m s λ t. if_tuple t λ ts. if_some (slice_get ts n) λ v. write_term m d v goes
 
+-- a map is wanted
 abbrev pub if_map : Term → (Pairs → Effect) → Effect
 if_map (T.map ps) k = k ps
 if_map _ k = bad
 
+-- all of them, or none
 abbrev pub and_also : {A : Type 0} → Option A → Option (List A) → Option (List A)
 and_also None o = None
 and_also (Some a) None = None
@@ -121,13 +128,16 @@ unfolding same_term
 values_at ps [] = Some []
 values_at ps (k ∷ ks) = and_also (value_at ps k) (values_at ps ks)
 
+-- one after the other
 abbrev pub write_all : Machine → List Reg → List Term → (Machine → Effect) → Effect
 write_all m (d ∷ ds) (t ∷ ts) k = write_term m d t λ u. write_all u ds ts k
 write_all m _ _ k = k m
 
+-- the first of each pair
 abbrev pub firsts : {A B : Type 0} → List (A × B) → List A
 firsts ps = map (λ p. p.0) ps
 
+-- and the second
 abbrev pub seconds : {A B : Type 0} → List (A × B) → List B
 seconds ps = map (λ p. p.1) ps
 
@@ -139,6 +149,7 @@ module _ (a : AsmModule) where
   do_put_map exact s d live ps m =
       collects live m λ u. read u s λ t. read_pairs u ps λ qs. answers a None (put_in exact qs t) d u
 
+  -- writes the values if all are there
   abbrev pub all_or_jumps : Option (List Term) → List Reg → ℕ → Machine → Effect
   all_or_jumps None ds l m = jumps a l m
   all_or_jumps (Some ts) ds l m = write_all m ds ts goes

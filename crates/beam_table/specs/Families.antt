@@ -4,6 +4,7 @@ use Rattle.beam_table.specs.declared.insn.Insn.TheVariants as V
 use Rattle.beam_table.specs.declared.family.Family.{Family}
 use Rattle.beam_table.specs.declared.family.Family.TheVariants as F
 
+-- an instruction's family
 abbrev pub family : Insn → Family
 family (V.Label l) = F.Frames
 family (V.Move s d) = F.Frames

@@ -6,12 +6,14 @@ use Rattle.erl_term.specs.Term.{Term, Class}
 use Rattle.erl_term.specs.Terms.{class_word}
 use Rattle.world_model.specs.Run.{gives, raises, numbered}
 use Rattle.world_model.specs.World.{Request, Reply}
+use Rattle.step_machine.specs.Frames.{is_tag, lowest_tag}
 use Rattle.step_machine.specs.Steps.{Stepped, goes, ends, bad, asks}
 use Rattle.beam_table.specs.Code as C
 use Rattle.beam_table.specs.Code.{Reg, x_reg, y_reg, Source, reg, Insn, label, func_info, AsmFun, AsmModule}
 use Rattle.beam_table.specs.MachineState.{Kind, Cell, Activation, Machine, unset, killed, term, tag}
 use Rattle.bif_table.specs.BuiltinAnswer.{Answer, value, raised}
 
+-- what a step does
 abbrev pub Effect : Type 0
 Effect = Stepped Machine
 
@@ -28,9 +30,10 @@ is_set unset = false
 is_set killed = false
 is_set _ = true
 
-abbrev pub is_tag : Cell → Bool
-is_tag (tag k l) = true
-is_tag _ = false
+-- the handler whose tag a cell holds: its kind, and the label where a raise lands
+abbrev pub tag_in : Cell → Option (Kind × ℕ)
+tag_in (tag k l) = Some (k, l)
+tag_in _ = None
 
 -- the first n cells are there and set
 abbrev pub all_set : ℕ → List Cell → Bool
@@ -38,14 +41,11 @@ all_set zero cs = true
 all_set (suc n) [] = false
 all_set (suc n) (c ∷ cs) = is_set c && all_set n cs
 
+-- no cell is unset; killed ones may be there
 abbrev pub none_unset : List Cell → Bool
 none_unset [] = true
 none_unset (unset ∷ cs) = false
 none_unset (c ∷ cs) = none_unset cs
-
-abbrev pub no_tags : List Cell → Bool
-no_tags [] = true
-no_tags (c ∷ cs) = not (is_tag c) && no_tags cs
 
 -- the cells with one written anew; those between are unset
 abbrev pub with_cell : ℕ → Cell → List Cell → List Cell
@@ -54,15 +54,18 @@ with_cell zero c (d ∷ ds) = c ∷ ds
 with_cell (suc n) c [] = unset ∷ with_cell n c []
 with_cell (suc n) c (d ∷ ds) = d ∷ with_cell n c ds
 
+-- a frame is wanted
 abbrev pub in_frame : Option (List Cell) → (List Cell → Effect) → Effect
 in_frame None k = bad
 in_frame (Some ys) k = k ys
 
+-- no frame is wanted
 abbrev pub no_frame : Machine → Effect → Effect
 no_frame m a = elim m.frame [ None ↦ a | Some ys ↦ bad ]
 
 -- Reading and writing.
 
+-- this is wanted
 abbrev pub if_some : {A : Type 0} → Option A → (A → Effect) → Effect
 if_some None k = bad
 if_some (Some a) k = k a
@@ -72,6 +75,7 @@ abbrev pub read_reg : Machine → Reg → (Cell → Effect) → Effect
 read_reg m (x_reg n) k = k (get_or m.xs n unset)
 read_reg m (y_reg n) k = in_frame m.frame λ ys. if_some (slice_get ys n) k
 
+-- what an operand holds, of any kind
 abbrev pub read_cell : Machine → Source → (Cell → Effect) → Effect
 read_cell m (reg r) k = read_reg m r k
 read_cell m (C.atom a) k = k (term (T.atom a))
@@ -79,6 +83,7 @@ read_cell m (C.integer z) k = k (term (T.int z))
 read_cell m C.nil k = k (term T.nil)
 read_cell m (C.literal t) k = k (term t)
 
+-- a term is wanted
 abbrev pub if_term : Cell → (Term → Effect) → Effect
 if_term (term t) k = k t
 if_term _ k = bad
@@ -87,6 +92,7 @@ if_term _ k = bad
 abbrev pub read : Machine → Source → (Term → Effect) → Effect
 read m s k = read_cell m s λ c. if_term c k
 
+-- operands in a row
 abbrev pub read_all : Machine → List Source → (List Term → Effect) → Effect
 read_all m [] k = k []
 read_all m (s ∷ ss) k = read m s λ t. read_all m ss λ ts. k (t ∷ ts)
@@ -97,6 +103,7 @@ arguments zero cs k = k []
 arguments (suc n) [] k = bad
 arguments (suc n) (c ∷ cs) k = if_term c λ t. arguments n cs λ ts. k (t ∷ ts)
 
+-- terms as cells
 abbrev pub cells : List Term → List Cell
 cells [] = []
 cells (t ∷ ts) = term t ∷ cells ts
@@ -110,8 +117,9 @@ abbrev pub write : Machine → Reg → Cell → (Machine → Effect) → Effect
 write m (x_reg n) c k = k (record m { xs = with_cell n c m.xs })
 write m (y_reg n) c k =
     outside_window m (in_frame m.frame λ ys. if_some (slice_get ys n) λ old.
-    needs (not (is_tag old)) (k (record m { frame = Some (with_cell n c ys) })))
+    needs (not (is_tag tag_in old)) (k (record m { frame = Some (with_cell n c ys) })))
 
+-- the same of a term
 abbrev pub write_term : Machine → Reg → Term → (Machine → Effect) → Effect
 write_term m r t k = write m r (term t) k
 
@@ -121,6 +129,7 @@ alone t m = goes (record m { xs = term t ∷ [] })
 
 -- General rules.
 
+-- no slot of the frame is unset
 abbrev pub frame_set : Option (List Cell) → Bool
 frame_set None = true
 frame_set (Some ys) = none_unset ys
@@ -140,15 +149,10 @@ leaves n m k = outside_window m (needs (all_set n m.xs) (k (record m { room = 0 
 abbrev pub builds : ℕ → Machine → (Machine → Effect) → Effect
 builds w m k = needs (leb w m.room) (k (record m { room = m.room - w }))
 
--- the lowest tag of a frame
-abbrev pub lowest_tag : List Cell → Option (Kind × ℕ)
-lowest_tag [] = None
-lowest_tag (tag k l ∷ ys) = Some (k, l)
-lowest_tag (c ∷ ys) = lowest_tag ys
-
+-- the lowest tag of a frame, if there is one
 abbrev pub tag_of : Option (List Cell) → Option (Kind × ℕ)
 tag_of None = None
-tag_of (Some ys) = lowest_tag ys
+tag_of (Some ys) = lowest_tag tag_in ys
 
 -- Labels.
 
@@ -162,10 +166,12 @@ after_label (i ∷ is) l = after_label is l
 abbrev pub full_code : AsmFun → List Insn
 full_code f = label f.info ∷ func_info f.key ∷ label f.entry ∷ f.code
 
+-- the first of two
 abbrev pub or_code : Option (List Insn) → Option (List Insn) → Option (List Insn)
 or_code None o = o
 or_code (Some is) o = Some is
 
+-- the code at a label of any function
 abbrev pub code_at : List AsmFun → ℕ → Option (List Insn)
 code_at [] l = None
 code_at (f ∷ fs) l = or_code (after_label (full_code f) l) (code_at fs l)
@@ -214,6 +220,7 @@ module _ (a : AsmModule) where
   or_raises None c r m = raising c r m
   or_raises (Some l) c r m = jumps l m
 
+  -- an answer's value, or its raise
   abbrev pub answers : Option ℕ → Answer → Reg → Machine → Effect
   answers l (value t) d m = write_term m d t goes
   answers l (raised c r) d m = or_raises l c r m

@@ -4,17 +4,19 @@ use Rattle.erl_term.specs.Term as T
 use Rattle.erl_term.specs.Term.{Term, none, more}
 use Rattle.erl_term.specs.Terms.{tagged}
 use Rattle.world_model.specs.World as W
+use Rattle.step_machine.specs.Frames.{no_tags}
 use Rattle.step_machine.specs.Steps.{goes, bad}
-use Rattle.beam_table.specs.Calls.{badarg}
+use Rattle.world_model.specs.Requests.{badarg}
 use Rattle.beam_table.specs.Code.{x_reg, Source, reg, AsmModule}
 use Rattle.beam_table.specs.MachineState.{Kind, Cell, Machine, a_try, a_catch, unset, killed, tag}
-use Rattle.beam_table.specs.GeneralRules.{Effect, needs, no_tags, with_cell, in_frame, read, outside_window, alone, leaves, raising, asking}
+use Rattle.beam_table.specs.GeneralRules.{Effect, needs, tag_in, with_cell, in_frame, read, outside_window, alone, leaves, raising, asking}
 
 -- {'try',Y,L}, {'catch',Y,L}: no tag stands in Y or below it; Y gets a tag with L
 abbrev pub do_tag : Kind → ℕ → ℕ → Machine → Effect
 do_tag k n l m = outside_window m (in_frame m.frame λ ys.
-    needs (ltb n (length ys) && no_tags (take (suc n) ys)) (goes (record m { frame = Some (with_cell n (tag k l) ys) })))
+    needs (ltb n (length ys) && no_tags tag_in (take (suc n) ys)) (goes (record m { frame = Some (with_cell n (tag k l) ys) })))
 
+-- a tag is wanted
 abbrev pub if_tag : Cell → (Kind → Effect) → Effect
 if_tag (tag k l) f = f k
 if_tag _ f = bad
@@ -22,7 +24,7 @@ if_tag _ f = bad
 -- the tag in slot n, the lowest one, goes
 abbrev pub ends_tag : ℕ → Machine → (Kind → Machine → Effect) → Effect
 ends_tag n m f = outside_window m (in_frame m.frame λ ys. if_tag (get_or ys n unset) λ k.
-    needs (no_tags (take n ys)) (f k (record m { frame = Some (with_cell n killed ys) })))
+    needs (no_tags tag_in (take n ys)) (f k (record m { frame = Some (with_cell n killed ys) })))
 
 -- {try_end,Y}: the tag in Y, the lowest one, goes; Y is killed
 abbrev pub do_try_end : ℕ → Machine → Effect
@@ -35,6 +37,7 @@ do_try_case n m = elim m.landing [
   | Some k ↦ ends_tag n m λ j u. goes (record u { landing = None })
 ]
 
+-- a tag of catch is wanted
 abbrev pub if_catch : Kind → Effect → Effect
 if_catch a_catch a = a
 if_catch a_try a = bad

@@ -5,10 +5,12 @@ use Rattle.world_model.specs.Run.{numbered}
 use Rattle.world_model.specs.Receive.{without}
 use Rattle.beam_table.specs.MachineState.{Machine}
 
+-- the mailbox, and the serial of the next message
 pub record Inbox : Type 0 where
   pub mailbox : List Message
   pub next : ℕ
 
+-- of a machine
 abbrev pub inbox : Machine → Inbox
 inbox m = record { mailbox = m.mailbox; next = m.next_serial }
 

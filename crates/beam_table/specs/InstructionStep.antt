@@ -1,7 +1,6 @@
 -- What each instruction does: one row an instruction, in the order of the table.
 use Rattle.std.specs.Prelude.{List, [], ◌∷◌, Bool, true, false, Option, Some, None, codes}
 use Rattle.erl_term.specs.Term as T
-use Rattle.erl_term.specs.Term.{Term}
 use Rattle.erl_term.specs.Terms.{word}
 use Rattle.step_machine.specs.Steps.{goes, bad}
 use Rattle.beam_table.specs.Binaries.{do_start_match, do_get_integer, do_get_binary, do_skip_bits, do_test_tail, do_test_unit, do_get_tail, do_get_position, do_set_position, do_create}
@@ -15,8 +14,10 @@ use Rattle.beam_table.specs.Data.{do_move, do_swap, do_init, do_allocate, drops,
 use Rattle.beam_table.specs.Tests.{do_has_fields, do_test, do_compare, do_test_arity, do_tagged, do_select, do_select_size, do_bif, do_gc_bif}
 
 module _ (a : AsmModule) where
+  -- what each instruction does; its code goes on behind it but where it jumps
   unfoldable pub act : Insn → Machine → Effect
-  unfolding do_put_map do_get_elements do_has_fields do_compare do_select do_bif do_gc_bif do_call_ext do_call_ext_only do_apply
+  unfolding do_put_map do_get_elements do_has_fields do_compare do_select do_bif do_gc_bif do_call_ext do_call_ext_only do_apply do_bind do_use
+      do_clear
   act (label l) m = bad
   act (func_info f) m = raising a T.error (word (codes "function_clause")) m
   act (move s d) m = do_move s d m
@@ -97,15 +98,18 @@ module _ (a : AsmModule) where
   may_land (Some a_catch) (catch_end n) = true
   may_land _ i = false
 
+  -- labels do nothing
   abbrev pub past_labels : List Insn → List Insn
   past_labels [] = []
   past_labels (label l ∷ is) = past_labels is
   past_labels (i ∷ is) = i ∷ is
 
+  -- the first instruction of the code
   abbrev pub step_at : List Insn → Machine → Effect
   step_at [] m = bad
   step_at (i ∷ is) m = needs (may_land m.landing i) (act i (record m { code = is }))
 
+  -- a step
   unfoldable pub step : Machine → Effect
   unfolding act
   step m = step_at (past_labels m.code) m

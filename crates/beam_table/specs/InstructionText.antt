@@ -2,25 +2,26 @@
 use Rattle.std.specs.Prelude.{ℕ, pos, List, [], ◌∷◌, Some, None, if◌then◌else◌, codes}
 use Rattle.erl_base.specs.Names.{Name}
 use Rattle.erl_term.specs.Term as T
-use Rattle.erl_term.specs.Term.{Term, none, more}
-use Rattle.erl_term.specs.Terms.{terms, list_of}
+use Rattle.erl_term.specs.Term.{Term}
+use Rattle.erl_term.specs.Terms.{terms, tagged, list_of}
 use Rattle.beam_table.specs.Code as C
-use Rattle.beam_table.specs.Code.{Reg, x_reg, y_reg, Source, reg, TypeTest, is_atom, is_integer, is_number, is_list, is_nonempty_list, is_nil, is_tuple, is_binary, is_bitstr, is_boolean, is_function, is_map, is_pid, is_port, is_reference, Comparison, is_eq_exact, is_ne_exact, is_eq, is_ne, is_lt, is_ge, is_function2, Extern, Flags, Segment, Insn, func_info, move, swap, init_yregs, allocate, allocate_heap, deallocate, trim, test_heap, return, put_list, put_tuple2, make_fun3, put_map_assoc, put_map_exact, get_list, get_hd, get_tl, get_tuple_element, get_map_elements, has_map_fields, jump, test, compares, test_arity, is_tagged_tuple, select_val, select_tuple_arity, bif, gc_bif, call, call_only, call_last, call_ext, call_ext_only, call_ext_last, call_fun, apply, apply_last, send, build_stacktrace, raise, badmatch, case_end, try_case_end, if_end, try, catch, try_end, try_case, catch_end, loop_rec, remove_message, loop_rec_end, wait, wait_timeout, timeout, recv_marker_reserve, recv_marker_bind, recv_marker_use, recv_marker_clear, bs_start_match4, bs_get_integer2, bs_get_binary2, bs_skip_bits2, bs_test_tail2, bs_test_unit, bs_get_tail, bs_get_position, bs_set_position, bs_create_bin}
+use Rattle.beam_table.specs.Code.{Reg, x_reg, y_reg, Source, reg, Flags, Insn}
 use Rattle.beam_table.specs.Operands.{Operand, Operands, operands, source, register, own_label, entry_label, label_or_zero, label_or_no_fail, no_label, x_slot, y_slot, live, arity, site, unit, amount, always, word, atom_operand, extfunc, field_flags, flag_list, items, list, end, ◌then◌}
 
-abbrev pub number : ℕ → Term
-number n = T.int (pos n)
+-- a bare number
+abbrev pub number_term : ℕ → Term
+number_term n = T.int (pos n)
 
-abbrev pub tagged : Name → Term → Term
-tagged a t = T.tuple (more (T.atom a) (more t none))
-
+-- {f,L}
 abbrev pub label_term : ℕ → Term
-label_term n = tagged (codes "f") (number n)
+label_term n = tagged (codes "f") (number_term n)
 
+-- {x,N}, {y,N}
 abbrev pub register_term : Reg → Term
-register_term (x_reg n) = tagged (codes "x") (number n)
-register_term (y_reg n) = tagged (codes "y") (number n)
+register_term (x_reg n) = tagged (codes "x") (number_term n)
+register_term (y_reg n) = tagged (codes "y") (number_term n)
 
+-- a register, {atom,A}, {integer,Z}, nil, {literal,T}
 abbrev pub source_term : Source → Term
 source_term (reg r) = register_term r
 source_term (C.atom a) = tagged (codes "atom") (T.atom a)
@@ -28,6 +29,7 @@ source_term (C.integer z) = tagged (codes "integer") (T.int z)
 source_term C.nil = T.atom (codes "nil")
 source_term (C.literal t) = tagged (codes "literal") t
 
+-- both are written, in this order
 abbrev pub flag_words : Flags → List Term
 flag_words f = (if f.signed then T.atom (codes "signed") else T.atom (codes "unsigned")) ∷ (if f.little then T.atom (codes "little") else T.atom (codes "big")) ∷ []
 
@@ -44,15 +46,15 @@ abbrev mutual
   operand_term no_label = label_term 0
   operand_term (x_slot n) = register_term (x_reg n)
   operand_term (y_slot n) = register_term (y_reg n)
-  operand_term (live n) = number n
-  operand_term (arity n) = number n
-  operand_term (site n) = number n
-  operand_term (unit n) = number n
-  operand_term (amount n) = number n
-  operand_term (always n) = number n
+  operand_term (live n) = number_term n
+  operand_term (arity n) = number_term n
+  operand_term (site n) = number_term n
+  operand_term (unit n) = number_term n
+  operand_term (amount n) = number_term n
+  operand_term (always n) = number_term n
   operand_term (word a) = T.atom a
   operand_term (atom_operand a) = tagged (codes "atom") (T.atom a)
-  operand_term (extfunc e) = T.tuple (terms (T.atom (codes "extfunc") ∷ T.atom e.mod_name ∷ T.atom e.name ∷ number e.arity ∷ []))
+  operand_term (extfunc e) = T.tuple (terms (T.atom (codes "extfunc") ∷ T.atom e.mod_name ∷ T.atom e.name ∷ number_term e.arity ∷ []))
   operand_term (field_flags f) = tagged (codes "field_flags") (list_of (flag_words f) T.nil)
   operand_term (flag_list f) = tagged (codes "literal") (list_of (flag_words f) T.nil)
   operand_term (items os) = list_of (operand_terms os) T.nil
@@ -62,11 +64,12 @@ abbrev mutual
   operand_terms end = []
   operand_terms (o then os) = operand_term o ∷ operand_terms os
 
-abbrev pub form_of : Name → List Term → Term
-form_of a [] = T.atom a
-form_of a (t ∷ ts) = T.tuple (terms (T.atom a ∷ t ∷ ts))
+-- a name with operands
+abbrev pub form_with : Name → List Term → Term
+form_with a [] = T.atom a
+form_with a (t ∷ ts) = T.tuple (terms (T.atom a ∷ t ∷ ts))
 
--- the form of a label has a bare number
+-- the form of a label has a bare number_term
 abbrev pub form : Insn → Term
-form (Insn.label l) = tagged (codes "label") (number l)
-form i = form_of (operands i).0 (operand_terms (operands i).1)
+form (Insn.label l) = tagged (codes "label") (number_term l)
+form i = form_with (operands i).0 (operand_terms (operands i).1)

@@ -1,5 +1,4 @@
 pub mod Code
-pub mod TextRange
 pub mod MachineState
 pub mod GeneralRules
 pub mod Data
@@ -10,11 +9,14 @@ pub mod Receives
 pub mod Binaries
 pub mod InstructionStep
 pub mod MachineRun
-pub mod OperandWords
 pub mod Operands
 pub mod OperandBounds
 pub mod InstructionText
+pub mod Opcodes
 pub mod ValidModule
+pub mod ModuleForms
+pub mod FormBounds
+pub mod WellFormedModule
 pub mod View
 pub mod Families
 pub mod Inbox

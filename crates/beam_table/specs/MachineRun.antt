@@ -11,6 +11,7 @@ use Rattle.beam_table.specs.MachineState.{Machine}
 use Rattle.beam_table.specs.GeneralRules.{cells}
 use Rattle.beam_table.specs.InstructionStep.{step}
 
+-- a call begins: the arguments stand in the X registers
 abbrev pub start : Script → List Term → List Insn → Machine
 start s ts is = record {
   xs = cells ts;

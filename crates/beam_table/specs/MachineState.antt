@@ -2,8 +2,11 @@
 use Rattle.std.specs.Prelude.{ℕ, List, Bool, Option}
 use Rattle.erl_term.specs.Term.{Term}
 use Rattle.world_model.specs.World.{Message}
+use Rattle.world_model.specs.References.{Bound}
+use Rattle.step_machine.specs.Frames.{MatchContext}
 use Rattle.beam_table.specs.Code.{Insn}
 
+-- the two kinds of handlers
 pub data Kind : Type 0 where
   a_try a_catch : Kind
 
@@ -19,25 +22,21 @@ pub record Activation : Type 0 where
   pub frame : Option (List Cell)
   pub back : List Insn
 
--- a bit string that is being matched, and how many of its bits were taken
-pub record Context : Type 0 where
-  pub bits : List Bool
-  pub at : ℕ
-
+-- registers and frames, what is matched, and how the run stands to the world
 pub record Machine : Type 0 where
   pub xs : List Cell
   pub frame : Option (List Cell)
   pub callers : List Activation
   pub room : ℕ
-  pub contexts : List Context
+  pub contexts : List MatchContext
   pub own : Term
   pub mailbox : List Message
   pub next_serial : ℕ
   -- how many messages stand before the save place, and the one that is looked at
   pub save : ℕ
   pub window : Option Message
-  -- references with the serial numbers that they are bound to
-  pub markers : List (ℕ × ℕ)
+  -- what is bound by receive markers, and the choices left
+  pub markers : List Bound
   pub choices : List Bool
   pub code : List Insn
   pub landing : Option Kind

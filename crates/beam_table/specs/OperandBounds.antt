@@ -1,28 +1,51 @@
 -- Bounds on operands, and the labels that an instruction names.
-use Rattle.std.specs.Prelude.{ℕ, ◌^◌, List, [], ◌∷◌, ◌++◌, length, Bool, true, false, not, ◌&&◌, eqb, leb, ltb, Option, Some, None, if◌then◌else◌}
+use Rattle.std.specs.Prelude.{ℕ, ◌+◌, ◌^◌, List, [], ◌∷◌, ◌++◌, length, Bool, true, false, not, ◌&&◌, eqb, leb, ltb, Option, Some, None}
 use Rattle.beam_table.specs.Code as C
-use Rattle.beam_table.specs.Code.{Reg, x_reg, y_reg, Source, reg, TypeTest, is_atom, is_integer, is_number, is_list, is_nonempty_list, is_nil, is_tuple, is_binary, is_bitstr, is_boolean, is_function, is_map, is_pid, is_port, is_reference, Comparison, is_eq_exact, is_ne_exact, is_eq, is_ne, is_lt, is_ge, is_function2, Extern, Flags, Segment, Insn, func_info, move, swap, init_yregs, allocate, allocate_heap, deallocate, trim, test_heap, return, put_list, put_tuple2, make_fun3, put_map_assoc, put_map_exact, get_list, get_hd, get_tl, get_tuple_element, get_map_elements, has_map_fields, jump, test, compares, test_arity, is_tagged_tuple, select_val, select_tuple_arity, bif, gc_bif, call, call_only, call_last, call_ext, call_ext_only, call_ext_last, call_fun, apply, apply_last, send, build_stacktrace, raise, badmatch, case_end, try_case_end, if_end, try, catch, try_end, try_case, catch_end, loop_rec, remove_message, loop_rec_end, wait, wait_timeout, timeout, recv_marker_reserve, recv_marker_bind, recv_marker_use, recv_marker_clear, bs_start_match4, bs_get_integer2, bs_get_binary2, bs_skip_bits2, bs_test_tail2, bs_test_unit, bs_get_tail, bs_get_position, bs_set_position, bs_create_bin}
+use Rattle.beam_table.specs.Code.{Reg, x_reg, y_reg, Source, reg, Insn, func_info, bif, gc_bif, call_ext, call_ext_only, call_ext_last}
 use Rattle.erl_term.specs.WellFormed.{maps_rise}
-use Rattle.beam_table.specs.TextRange.{in_signed, fits}
+use Rattle.erl_term.specs.Ranges.{is_within_128, fits}
 use Rattle.bif_table.specs.Builtins.{is_guard, is_collecting, arity_of}
 use Rattle.beam_table.specs.Operands.{Operand, Operands, operands, source, register, own_label, entry_label, label_or_zero, label_or_no_fail, x_slot, y_slot, live, arity, site, unit, amount, extfunc, items, list, end, ◌then◌}
 
 -- Bounds.
 
-abbrev pub register_ok : Reg → Bool
-register_ok (x_reg n) = leb n 1022
-register_ok (y_reg n) = ltb n (2 ^ 24)
+-- The limits of the machine and of its text.
 
+abbrev pub most_x_register : ℕ
+most_x_register = 1022
+
+abbrev pub most_arity : ℕ
+most_arity = 255
+
+abbrev pub most_unit : ℕ
+most_unit = 256
+
+-- slots and other counts stay below
+abbrev pub count_limit : ℕ
+count_limit = 2 ^ 24
+
+-- labels and numbers of functions stay below
+abbrev pub label_limit : ℕ
+label_limit = 2 ^ 32
+
+-- a register that the machine has
+abbrev pub register_ok : Reg → Bool
+register_ok (x_reg n) = leb n most_x_register
+register_ok (y_reg n) = ltb n count_limit
+
+-- an operand that a text can hold
 unfoldable pub source_ok : Source → Bool
 unfolding maps_rise
 source_ok (reg r) = register_ok r
-source_ok (C.integer z) = in_signed z
+source_ok (C.integer z) = is_within_128 z
 source_ok (C.literal t) = maps_rise t && fits t
 source_ok _ = true
 
+-- a label
 abbrev pub label_ok : ℕ → Bool
-label_ok l = ltb 0 l && ltb l (2 ^ 32)
+label_ok l = ltb 0 l && ltb l label_limit
 
+-- a label, if there is one
 abbrev pub option_ok : Option ℕ → Bool
 option_ok None = true
 option_ok (Some l) = label_ok l
@@ -37,14 +60,14 @@ unfoldable mutual
   operand_ok (entry_label l) = label_ok l
   operand_ok (label_or_zero o) = option_ok o
   operand_ok (label_or_no_fail o) = option_ok o
-  operand_ok (x_slot n) = leb n 1022
-  operand_ok (y_slot n) = ltb n (2 ^ 24)
-  operand_ok (live n) = leb n 1023
-  operand_ok (arity n) = leb n 255
-  operand_ok (site n) = ltb n (2 ^ 32)
-  operand_ok (unit n) = ltb 0 n && leb n 256
-  operand_ok (amount n) = ltb n (2 ^ 24)
-  operand_ok (extfunc e) = leb e.arity 255
+  operand_ok (x_slot n) = leb n most_x_register
+  operand_ok (y_slot n) = ltb n count_limit
+  operand_ok (live n) = leb n (most_x_register + 1)
+  operand_ok (arity n) = leb n most_arity
+  operand_ok (site n) = ltb n label_limit
+  operand_ok (unit n) = ltb 0 n && leb n most_unit
+  operand_ok (amount n) = ltb n count_limit
+  operand_ok (extfunc e) = leb e.arity most_arity
   operand_ok (items os) = operands_ok os
   operand_ok (list os) = operands_ok os
   operand_ok _ = true
@@ -64,12 +87,14 @@ agrees (call_ext_only n e) = eqb n e.arity
 agrees (call_ext_last n e k) = eqb n e.arity
 agrees _ = true
 
+-- an instruction whose operands are in their bounds and agree
 unfoldable pub insn_ok : Insn → Bool
 unfolding operand_ok
 insn_ok i = agrees i && operands_ok (operands i).1
 
 -- Labels that are named.
 
+-- the label, if there is one
 abbrev pub option_list : Option ℕ → List ℕ
 option_list None = []
 option_list (Some l) = l ∷ []
@@ -87,6 +112,7 @@ abbrev mutual
   all_own_labels end = []
   all_own_labels (o then os) = own_labels o ++ all_own_labels os
 
+-- labels of any function's entry
 abbrev pub entry_labels : Operands → List ℕ
 entry_labels end = []
 entry_labels (entry_label l then os) = l ∷ entry_labels os

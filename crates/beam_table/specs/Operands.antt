@@ -1,11 +1,13 @@
 -- The operands of each instruction, with their kinds. From this table come the text of an instruction, the
 -- bounds on its operands, and the labels that it names.
-use Rattle.std.specs.Prelude.{ℕ, List, [], ◌∷◌, Bool, true, false, Option, if◌then◌else◌, codes}
+use Rattle.std.specs.Prelude.{ℕ, List, [], ◌∷◌, Bool, true, false, Option, codes}
 use Rattle.erl_base.specs.Names.{Name}
+use Rattle.bif_table.specs.Builtins.{bif_name}
 use Rattle.beam_table.specs.Code.{Reg, Source, Extern, Flags, Segment, Insn, func_info, move, swap, init_yregs, allocate, allocate_heap, deallocate, trim, test_heap, return, put_list, put_tuple2, make_fun3, put_map_assoc, put_map_exact, get_list, get_hd, get_tl, get_tuple_element, get_map_elements, has_map_fields, jump, test, compares, test_arity, is_tagged_tuple, select_val, select_tuple_arity, bif, gc_bif, call, call_only, call_last, call_ext, call_ext_only, call_ext_last, call_fun, apply, apply_last, send, build_stacktrace, raise, badmatch, case_end, try_case_end, if_end, try, catch, try_end, try_case, catch_end, loop_rec, remove_message, loop_rec_end, wait, wait_timeout, timeout, recv_marker_reserve, recv_marker_bind, recv_marker_use, recv_marker_clear, bs_start_match4, bs_get_integer2, bs_get_binary2, bs_skip_bits2, bs_test_tail2, bs_test_unit, bs_get_tail, bs_get_position, bs_set_position, bs_create_bin}
-use Rattle.beam_table.specs.OperandWords.{type_word, comparison_word, bif_word}
+use Rattle.bif_table.specs.TermTests.{type_name, comparison_name}
 
 mutual
+  -- an operand, by its kind
   pub data Operand : Type 0 where
     source : Source → Operand
     register : Reg → Operand
@@ -29,31 +31,39 @@ mutual
     -- `[..]` and `{list,[..]}`
     items list : Operands → Operand
 
+  -- operands in a row
   pub data Operands : Type 0 where
     end : Operands
     ◌then◌ : Operand → Operands → Operands
 
 infixr 40 ◌then◌
+-- for each item its operands
 abbrev pub each : {A : Type 0} → (A → Operands → Operands) → List A → Operands
 each f [] = end
 each f (a ∷ as') = f a (each f as')
 
+-- sources in a row
 abbrev pub sources : List Source → Operands
 sources ss = each (λ s r. source s then r) ss
 
+-- the type of a segment
 abbrev pub kind_word : Bool → Name
 kind_word true = codes "binary"
 kind_word false = codes "integer"
 
+-- the six operands of a segment that is built
 abbrev pub segment : Segment → Operands → Operands
 segment g r = atom_operand (kind_word g.is_binary) then amount g.number then unit g.unit then flag_list g.flags then source g.value then source g.size then r
 
+-- an instruction that the text writes as a test
 abbrev pub tested : Name → Operands → Name × Operands
 tested t r = (codes "test", word t then r)
 
+-- the operands of the two that put pairs into a map
 abbrev pub puts : ℕ → Reg → Source → List (Source × Source) → Operands
 puts k d s ps = no_label then source s then register d then live k then list (each (λ p r. source p.0 then source p.1 then r) ps) then end
 
+-- what is taken from a match context
 abbrev pub field : Reg → Source → ℕ → Flags → Operands
 field c s u f = register c then source s then amount u then field_flags f then end
 
@@ -82,14 +92,14 @@ operands (get_tuple_element s n d) = (codes "get_tuple_element", source s then a
 operands (get_map_elements l s ps) = (codes "get_map_elements", own_label l then source s then list (each (λ p r. source p.0 then register p.1 then r) ps) then end)
 operands (has_map_fields l s ss) = tested (codes "has_map_fields") (own_label l then source s then list (sources ss) then end)
 operands (jump l) = (codes "jump", own_label l then end)
-operands (test t l s) = tested (type_word t) (own_label l then items (source s then end) then end)
-operands (compares t l r s) = tested (comparison_word t) (own_label l then items (source r then source s then end) then end)
+operands (test t l s) = tested (type_name t) (own_label l then items (source s then end) then end)
+operands (compares t l r s) = tested (comparison_name t) (own_label l then items (source r then source s then end) then end)
 operands (test_arity l s n) = tested (codes "test_arity") (own_label l then items (source s then amount n then end) then end)
 operands (is_tagged_tuple l s n a) = tested (codes "is_tagged_tuple") (own_label l then items (source s then amount n then atom_operand a then end) then end)
 operands (select_val s l cs) = (codes "select_val", source s then own_label l then list (each (λ c r. source c.0 then own_label c.1 then r) cs) then end)
 operands (select_tuple_arity s l cs) = (codes "select_tuple_arity", source s then own_label l then list (each (λ c r. amount c.0 then own_label c.1 then r) cs) then end)
-operands (bif b l ss d) = (codes "bif", word (bif_word b) then label_or_zero l then items (sources ss) then register d then end)
-operands (gc_bif b l k ss d) = (codes "gc_bif", word (bif_word b) then label_or_zero l then live k then items (sources ss) then register d then end)
+operands (bif b l ss d) = (codes "bif", word (bif_name b) then label_or_zero l then items (sources ss) then register d then end)
+operands (gc_bif b l k ss d) = (codes "gc_bif", word (bif_name b) then label_or_zero l then live k then items (sources ss) then register d then end)
 operands (call n l) = (codes "call", arity n then entry_label l then end)
 operands (call_only n l) = (codes "call_only", arity n then entry_label l then end)
 operands (call_last n l k) = (codes "call_last", arity n then entry_label l then amount k then end)

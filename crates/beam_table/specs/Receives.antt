@@ -1,8 +1,9 @@
 -- Receives, and the markers that let them skip messages.
-use Rattle.std.specs.Prelude.{ℕ, suc, List, [], ◌∷◌, drop, slice_get, Bool, true, eqb, leb, Option, Some, None, if◌then◌else◌, codes}
+use Rattle.std.specs.Prelude.{ℕ, suc, [], slice_get, Option, Some, None, codes}
 use Rattle.erl_term.specs.Term as T
 use Rattle.erl_term.specs.Term.{Term}
 use Rattle.erl_term.specs.Terms.{word}
+use Rattle.world_model.specs.References.{Standing, serial_of, unbound, bound_to, used, place_of}
 use Rattle.world_model.specs.World as W
 use Rattle.world_model.specs.Receive.{Timeout, now, in', wrong, timeout_of, without, new_or}
 use Rattle.world_model.specs.World.{Delay, forever, millis, Message, taken}
@@ -15,10 +16,12 @@ use Rattle.beam_table.specs.GeneralRules.{Effect, with_cell, read_reg, read, out
 abbrev pub look_at : ℕ → Message → Machine → Effect
 look_at n w m = notes (examined w.serial) (goes (record m { xs = with_cell n (term w.term) []; window = Some w }))
 
+-- the message, if there is one
 abbrev pub look_or : ℕ → Option Message → Machine → (Machine → Effect) → Effect
 look_or n (Some w) m k = look_at n w m
 look_or n None m k = k m
 
+-- the message that is looked at is wanted
 abbrev pub in_window : Machine → (Message → Effect) → Effect
 in_window m k = elim m.window [ None ↦ bad | Some w ↦ k w ]
 
@@ -56,6 +59,7 @@ module _ (a : AsmModule) where
   abbrev pub do_wait : ℕ → Machine → Effect
   do_wait l m = outside_window m (waits_for l forever (record m { xs = [] }))
 
+  -- what a timeout leads to
   abbrev pub waits_until : ℕ → Timeout → Machine → Effect
   waits_until l now m = goes m
   waits_until l (in' d) m = waits_for l d m
@@ -68,35 +72,16 @@ module _ (a : AsmModule) where
 
 -- Markers.
 
-abbrev pub bound_to : List (ℕ × ℕ) → ℕ → Option ℕ
-bound_to [] n = None
-bound_to (b ∷ bs) n = if eqb b.0 n then Some b.1 else bound_to bs n
+-- a receive begins that waits for a reference: the save place goes behind the messages that it passes over
+abbrev pub begins : Standing → Machine → Machine
+begins a m = record m { markers = a.bound; choices = a.choices; save = place_of a.low m.mailbox }
 
-abbrev pub unbound : List (ℕ × ℕ) → ℕ → List (ℕ × ℕ)
-unbound [] n = []
-unbound (b ∷ bs) n = if eqb b.0 n then unbound bs n else b ∷ unbound bs n
-
--- how many messages stand before the first one with at least this serial
-abbrev pub place_of : ℕ → List Message → ℕ
-place_of n [] = 0
-place_of n (w ∷ ws) = if leb n w.serial then 0 else suc (place_of n ws)
-
-abbrev pub first_choice : List Bool → Bool
-first_choice [] = true
-first_choice (b ∷ bs) = b
-
--- a bound marker takes a choice: kept, it sets the save place to the first message with at least its serial;
--- forgotten, it is unbound
-abbrev pub use_marker : Option ℕ → ℕ → Machine → Effect
-use_marker None r m = goes (record m { save = 0 })
-use_marker (Some n) r m = if first_choice m.choices
-    then goes (record m { choices = drop 1 m.choices; save = place_of n m.mailbox })
-    else goes (record m { choices = drop 1 m.choices; save = 0; markers = unbound m.markers r })
-
+-- a reference is wanted
 abbrev pub if_reference : Term → (ℕ → Effect) → Effect
 if_reference (T.reference n) k = k n
 if_reference _ k = bad
 
+-- a marker is wanted
 abbrev pub if_marker : Cell → (ℕ → Effect) → Effect
 if_marker (marker n) k = k n
 if_marker _ k = bad
@@ -106,19 +91,18 @@ abbrev pub do_reserve : Reg → Machine → Effect
 do_reserve d m = write m d (marker m.next_serial) goes
 
 -- {recv_marker_bind,D,S}: the reference is bound to the serial of the marker in D, in place of an older binding
-abbrev pub do_bind : Reg → Source → Machine → Effect
+unfoldable pub do_bind : Reg → Source → Machine → Effect
+unfolding bound_to
 do_bind d s m = read_reg m d λ c. if_marker c λ n. read m s λ t. if_reference t λ r.
-    goes (record m { markers = (r, n) ∷ unbound m.markers r })
+    goes (record m { markers = bound_to m.markers (T.reference r) n })
 
 -- {recv_marker_use,S}
-abbrev pub do_use : Source → Machine → Effect
-do_use s m = outside_window m (read m s λ t. if_reference t λ r. use_marker (bound_to m.markers r) r m)
+unfoldable pub do_use : Source → Machine → Effect
+unfolding serial_of used
+do_use s m = outside_window m (read m s λ t. if_reference t λ r.
+    goes (begins (used (serial_of m.markers (T.reference r)) (T.reference r) m.markers m.choices) m))
 
--- a term that is no reference has no binding
-abbrev pub clears : Term → Machine → Effect
-clears (T.reference r) m = goes (record m { markers = unbound m.markers r })
-clears t m = goes m
-
--- {recv_marker_clear,S}
-abbrev pub do_clear : Source → Machine → Effect
-do_clear s m = read m s λ t. clears t m
+-- {recv_marker_clear,S}: a term that is no reference has no binding
+unfoldable pub do_clear : Source → Machine → Effect
+unfolding unbound
+do_clear s m = read m s λ t. goes (record m { markers = unbound m.markers t })

@@ -48,12 +48,15 @@ ByEvents w (notes (examined n) s) = ByEvents w s
 ByEvents w (notes sub_binary s) = ByEvents w s
 ByEvents w (asks q f) = (r : Reply) → ByEvents (arrived r w) (f r)
 
+-- a step leaves the activations that wait as they are, with one more, or with some gone
 abbrev pub StepsKeepTheStack : Type 0
 StepsKeepTheStack = (a : AsmModule) (m : Machine) → Fine m.callers (step a m)
 
+-- the mailbox changes by arrivals and by the message taken alone
 abbrev pub OnlyEventsChangeTheMailbox : Type 0
 OnlyEventsChangeTheMailbox = (a : AsmModule) (m : Machine) → ByEvents (inbox m) (step a m)
 
+-- none of these activations has a tag
 abbrev pub Untagged : List Activation → Type 0
 Untagged [] = Unit {0}
 Untagged (f ∷ fs) = (tag_of f.frame ≡ None) × Untagged fs
@@ -62,6 +65,7 @@ Untagged (f ∷ fs) = (tag_of f.frame ≡ None) × Untagged fs
 abbrev pub EntersOne : Bool → List Activation → Effect → Type 0
 EntersOne tail cs s = (s ≡ bad) ⊎ ((n : ℕ) × (u : Machine) × (s ≡ notes (entered (record { site = n; tail = tail })) (goes u)) × Deeper tail cs u.callers)
 
+-- the three local calls note one entry, or are bad
 pub record LocalCallsEnterOne (a : AsmModule) : Type 0 where
   pub call : (n l : ℕ) (m : Machine) → EntersOne false m.callers (act a (C.call n l) m)
   pub only : (n l : ℕ) (m : Machine) → EntersOne true m.callers (act a (C.call_only n l) m)

@@ -1,63 +1,73 @@
 -- The conditions of a valid module: what a module of an assembly text meets.
-use Rattle.std.specs.Prelude.{ℕ, List, [], ◌∷◌, ◌++◌, map, Bool, true, false, not, ◌&&◌, ◌||◌, eqb, leb, IsTrue}
+use Rattle.std.specs.Prelude.{ℕ, List, [], ◌∷◌, ◌++◌, map, Bool, true, false, not, ◌&&◌, ◌||◌, leb, IsTrue}
+use Rattle.erl_base.specs.Lists.{among}
 use Rattle.erl_base.specs.Names.{Name, same_key}
 use Rattle.erl_base.specs.declared.ids.FunKey.{FunKey}
 use Rattle.erl_term.specs.Term.{Term}
 use Rattle.beam_table.specs.Code.{Insn, label, AsmFun, AsmModule}
 use Rattle.erl_term.specs.WellFormed.{maps_rise}
-use Rattle.beam_table.specs.TextRange.{fits}
+use Rattle.erl_term.specs.Ranges.{fits}
 use Rattle.beam_table.specs.Operands.{operands}
-use Rattle.beam_table.specs.OperandBounds.{label_ok, insn_ok, all_own_labels, entry_labels}
+use Rattle.beam_table.specs.OperandBounds.{most_arity, label_ok, insn_ok, all_own_labels, entry_labels}
 
+-- of each item
 abbrev pub every : {A : Type 0} → (A → Bool) → List A → Bool
 every f [] = true
 every f (a ∷ as') = f a && every f as'
 
-abbrev pub is_among : ℕ → List ℕ → Bool
-is_among l [] = false
-is_among l (j ∷ js) = eqb l j || is_among l js
-
+-- no number twice
 abbrev pub distinct : List ℕ → Bool
 distinct [] = true
-distinct (l ∷ ls) = not (is_among l ls) && distinct ls
+distinct (l ∷ ls) = not (among l ls) && distinct ls
 
+-- the labels that stand in code
 abbrev pub labels_in : List Insn → List ℕ
 labels_in [] = []
 labels_in (label l ∷ is) = l ∷ labels_in is
 labels_in (i ∷ is) = labels_in is
 
+-- all labels of a function
 abbrev pub labels_of : AsmFun → List ℕ
 labels_of f = f.info ∷ f.entry ∷ labels_in f.code
 
+-- all labels of a module
 abbrev pub all_labels : List AsmFun → List ℕ
 all_labels [] = []
 all_labels (f ∷ fs) = labels_of f ++ all_labels fs
 
+-- the entry labels
 abbrev pub entries_of : List AsmFun → List ℕ
 entries_of fs = map (λ f. f.entry) fs
 
+-- an instruction names labels of its own function alone
 abbrev pub names_own : List ℕ → Insn → Bool
-names_own ls i = every (λ l. is_among l ls) (all_own_labels (operands i).1)
+names_own ls i = every (λ l. among l ls) (all_own_labels (operands i).1)
 
+-- and entries alone where it enters a function
 abbrev pub names_entries : List ℕ → Insn → Bool
-names_entries es i = every (λ l. is_among l es) (entry_labels (operands i).1)
+names_entries es i = every (λ l. among l es) (entry_labels (operands i).1)
 
+-- a function among these entries
 unfoldable pub fun_ok : List ℕ → AsmFun → Bool
 unfolding insn_ok
-fun_ok es f = leb f.key.arity 255 && every (λ i. insn_ok i && names_own (labels_of f) i && names_entries es i) f.code
+fun_ok es f = leb f.key.arity most_arity && every (λ i. insn_ok i && names_own (labels_of f) i && names_entries es i) f.code
 
+-- whether a function is one of these
 abbrev pub is_key : FunKey → List FunKey → Bool
 is_key f [] = false
 is_key f (g ∷ gs) = same_key f g || is_key f gs
 
+-- no function twice
 abbrev pub keys_distinct : List FunKey → Bool
 keys_distinct [] = true
 keys_distinct (f ∷ fs) = not (is_key f fs) && keys_distinct fs
 
+-- an attribute that a text can hold
 unfoldable pub attribute_ok : Name × Term → Bool
 unfolding maps_rise
 attribute_ok p = maps_rise p.1 && fits p.1
 
+-- labels and keys are distinct, operands in bounds, and what is named is there
 pub record Valid (a : AsmModule) : Type 0 where
   pub labels : IsTrue (every label_ok (all_labels a.funs) && distinct (all_labels a.funs))
   pub functions : IsTrue (every (fun_ok (entries_of a.funs)) a.funs)

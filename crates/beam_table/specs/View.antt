@@ -2,15 +2,11 @@
 use Rattle.std.specs.Prelude.{Bool, true, false, ℕ, map, Option, Some, None}
 use Rattle.erl_base.specs.declared.ids.LabelId.{LabelId}
 use Rattle.erl_term.specs.View.{view, attribute_view}
-use Rattle.bif_table.specs.View.{bif_view}
+use Rattle.bif_table.specs.View.{bif_view, type_view, comparison_view}
 use Rattle.beam_table.specs.declared.operand.Reg.{Reg}
 use Rattle.beam_table.specs.declared.operand.Reg.TheVariants as R
 use Rattle.beam_table.specs.declared.operand.Source.{Source}
 use Rattle.beam_table.specs.declared.operand.Source.TheVariants as S
-use Rattle.beam_table.specs.declared.operand.TypeTest.{TypeTest}
-use Rattle.beam_table.specs.declared.operand.TypeTest.TheVariants as TT
-use Rattle.beam_table.specs.declared.operand.Comparison.{Comparison}
-use Rattle.beam_table.specs.declared.operand.Comparison.TheVariants as CT
 use Rattle.beam_table.specs.declared.operand.SegmentKind.{SegmentKind}
 use Rattle.beam_table.specs.declared.operand.SegmentKind.TheVariants as SK
 use Rattle.beam_table.specs.declared.operand.Extern.{Extern}
@@ -26,10 +22,12 @@ use Rattle.beam_table.specs.declared.asm.AsmFun.{AsmFun}
 use Rattle.beam_table.specs.declared.asm.AsmModule.{AsmModule}
 use Rattle.beam_table.specs.Code as Plain
 
+-- registers
 abbrev pub reg_view : Reg → Plain.Reg
 reg_view (R.X n) = Plain.x_reg n
 reg_view (R.Y n) = Plain.y_reg n
 
+-- operands that are read
 abbrev pub source_view : Source → Plain.Source
 source_view (S.Reg r) = Plain.reg (reg_view r)
 source_view (S.Atom a) = Plain.atom (a)
@@ -37,61 +35,45 @@ source_view (S.Integer z) = Plain.integer z
 source_view S.Nil = Plain.nil
 source_view (S.Literal t) = Plain.literal (view t)
 
-abbrev pub type_view : TypeTest → Plain.TypeTest
-type_view TT.IsAtom = Plain.is_atom
-type_view TT.IsInteger = Plain.is_integer
-type_view TT.IsNumber = Plain.is_number
-type_view TT.IsList = Plain.is_list
-type_view TT.IsNonemptyList = Plain.is_nonempty_list
-type_view TT.IsNil = Plain.is_nil
-type_view TT.IsTuple = Plain.is_tuple
-type_view TT.IsBinary = Plain.is_binary
-type_view TT.IsBitstr = Plain.is_bitstr
-type_view TT.IsBoolean = Plain.is_boolean
-type_view TT.IsFunction = Plain.is_function
-type_view TT.IsMap = Plain.is_map
-type_view TT.IsPid = Plain.is_pid
-type_view TT.IsPort = Plain.is_port
-type_view TT.IsReference = Plain.is_reference
-
-abbrev pub comparison_view : Comparison → Plain.Comparison
-comparison_view CT.IsEqExact = Plain.is_eq_exact
-comparison_view CT.IsNeExact = Plain.is_ne_exact
-comparison_view CT.IsEq = Plain.is_eq
-comparison_view CT.IsNe = Plain.is_ne
-comparison_view CT.IsLt = Plain.is_lt
-comparison_view CT.IsGe = Plain.is_ge
-comparison_view CT.IsFunction2 = Plain.is_function2
-
+-- the type of a segment
 abbrev pub is_binary : SegmentKind → Bool
 is_binary SK.Integer = false
 is_binary SK.Binary = true
 
+-- functions of any module
 abbrev pub extern_view : Extern → Plain.Extern
 extern_view e = record { mod_name = e.«module»; name = e.name; arity = e.arity }
 
+-- how bits are read
 abbrev pub flags_view : Flags → Plain.Flags
 flags_view f = record { signed = f.signed; little = f.little }
 
+-- segments that are built
 abbrev pub segment_view : Segment → Plain.Segment
 segment_view g = record { is_binary = is_binary g.kind; number = g.number; unit = g.unit; flags = flags_view g.flags; value = source_view g.value; size = source_view g.size }
 
+-- labels that may be missing
 abbrev pub label_view : Option LabelId → Option ℕ
 label_view None = None
 label_view (Some l) = Some l.0
 
+-- pairs that are put
 abbrev pub put_view : PutPair → Plain.Source × Plain.Source
 put_view p = (source_view p.key, source_view p.value)
 
+-- keys with registers
 abbrev pub get_view : GetPair → Plain.Source × Plain.Reg
 get_view p = (source_view p.key, reg_view p.to)
 
+-- values with labels
 abbrev pub choice_view : ValueChoice → Plain.Source × ℕ
 choice_view c = (source_view c.value, c.label.0)
 
+-- sizes with labels
 abbrev pub size_choice_view : SizeChoice → ℕ × ℕ
 size_choice_view c = (c.size, c.label.0)
 
+-- instructions
 abbrev pub insn_view : Insn → Plain.Insn
 insn_view (V.Label l) = Plain.label l.0
 insn_view (V.Move s d) = Plain.move (source_view s) (reg_view d)
@@ -165,9 +147,11 @@ insn_view (V.BsGetPosition c d k) = Plain.bs_get_position (reg_view c) (reg_view
 insn_view (V.BsSetPosition c p) = Plain.bs_set_position (reg_view c) (reg_view p)
 insn_view (V.BsCreateBin l k u d gs) = Plain.bs_create_bin (label_view l) k u (reg_view d) (map segment_view gs)
 
+-- functions
 abbrev pub fun_view : AsmFun → Plain.AsmFun
 fun_view f = record { key = f.key; info = f.info.0; entry = f.entry.0; code = map insn_view f.code }
 
+-- modules
 abbrev pub module_view : AsmModule → Plain.AsmModule
 module_view m = record {
   name = m.name;

@@ -1,8 +1,8 @@
 use crate::operand::{
-    BuiltSegments, Comparison, Extern, Flags, GetPairs, PutPairs, Reg, SizeChoices, Slots, Source,
-    Sources, TypeTest, ValueChoices,
+    BuiltSegments, Extern, Flags, GetPairs, PutPairs, Reg, SizeChoices, Slots, Source, Sources,
+    ValueChoices,
 };
-use bif_table::Bif;
+use bif_table::{Bif, Comparison, TypeTest};
 use erl_base::{LabelId, List, Name, SiteId};
 
 /// An instruction with its operands in the order of its text. A label that may be missing (`{f,0}`, or `no_fail`) is
@@ -97,6 +97,9 @@ pub enum Insn {
     /// label, live, unit, destination, segments
     BsCreateBin(Option<LabelId>, u32, u32, Reg, BuiltSegments),
 }
+
+// A literal stands behind a pointer, so that a list of instructions stays small.
+const _: () = prove!(size_of::<Insn>() <= 96);
 
 /// Instructions in a row.
 pub type Insns = List<Insn>;

@@ -1,4 +1,9 @@
 ghost use Rattle.beam_table.specs.Code.{AsmModule};
+ghost use Rattle.std.specs.Prelude.{IsTrue};
+ghost use Rattle.beam_table.specs.declared.insn.Insn.{Insn};
+ghost use Rattle.beam_table.specs.Opcodes.{opcode_of, opcode_row, has_row};
+ghost use Rattle.beam_table.specs.Operands.{operands};
+ghost use Rattle.beam_table.specs.View.{insn_view};
 ghost use Rattle.beam_table.specs.StepFacts.{OnlyEventsChangeTheMailbox, StepsKeepTheStack, StepsEnterAtMostOne, LocalCallsEnterOne, RaiseUnwinds};
 
 /// Between two steps the mailbox changes only by the arrivals of replies that are asked for, and by the message taken.
@@ -24,4 +29,9 @@ pub fn local_call_adds_one_entry()
 /// A raise drops the activations without a tag up to the first with one.
 pub fn raise_unwinds_the_stack()
     ensures { (a : AsmModule) → RaiseUnwinds a }
+{}
+
+/// An instruction's text has the name and the kinds of operands of its opcode.
+pub fn opcodes_tell_operands()
+    ensures { (i : Insn) → IsTrue (has_row (opcode_row (opcode_of i)) (operands (insn_view i)).0 (operands (insn_view i)).1) }
 {}

@@ -8,6 +8,7 @@ mod copies;
 mod family;
 mod insn;
 mod laws;
+mod opcode;
 mod operand;
 #[cfg(test)]
 mod tests;
@@ -16,11 +17,11 @@ pub use asm::{AsmFun, AsmFuns, AsmModule, FunKeys};
 pub use family::Family;
 pub use insn::{Insn, Insns};
 pub use laws::{
-    local_call_adds_one_entry, only_events_change_the_mailbox, raise_unwinds_the_stack,
-    steps_enter_at_most_one, steps_keep_the_stack,
+    local_call_adds_one_entry, only_events_change_the_mailbox, opcodes_tell_operands,
+    raise_unwinds_the_stack, steps_enter_at_most_one, steps_keep_the_stack,
 };
+pub use opcode::{Kind, Opcode};
 pub use operand::{
-    BuiltSegments, Comparison, Extern, Flags, GetPair, GetPairs, PutPair, PutPairs, Reg, Segment,
-    SegmentKind, SizeChoice, SizeChoices, Slots, Source, Sources, TypeTest, ValueChoice,
-    ValueChoices,
+    BuiltSegments, Extern, Flags, GetPair, GetPairs, PutPair, PutPairs, Reg, Segment, SegmentKind,
+    SizeChoice, SizeChoices, Slots, Source, Sources, ValueChoice, ValueChoices,
 };

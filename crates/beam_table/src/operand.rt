@@ -1,6 +1,6 @@
 ghost use Rattle.std.specs.Prelude.{◌≡◌, IfOk};
 
-use erl_base::{Duplicate, LabelId, List, Name, NoMemory};
+use erl_base::{Boxed, Duplicate, LabelId, List, Name, NoMemory};
 use erl_term::Term;
 use std::alloc::Global;
 
@@ -18,39 +18,7 @@ pub enum Source {
     Atom(Name),
     Integer(i128),
     Nil,
-    Literal(Term),
-}
-
-/// A test of one term's type.
-#[derive(Clone, Copy, Debug, PartialEq, Eq)]
-pub enum TypeTest {
-    IsAtom,
-    IsInteger,
-    IsNumber,
-    IsList,
-    IsNonemptyList,
-    IsNil,
-    IsTuple,
-    IsBinary,
-    IsBitstr,
-    IsBoolean,
-    IsFunction,
-    IsMap,
-    IsPid,
-    IsPort,
-    IsReference,
-}
-
-/// A test of two terms.
-#[derive(Clone, Copy, Debug, PartialEq, Eq)]
-pub enum Comparison {
-    IsEqExact,
-    IsNeExact,
-    IsEq,
-    IsNe,
-    IsLt,
-    IsGe,
-    IsFunction2,
+    Literal(Boxed<Term>),
 }
 
 /// A function of any module, written `{extfunc,M,F,A}`.

@@ -2,7 +2,7 @@ use crate::{
     AsmFun, AsmFuns, AsmModule, Extern, Flags, GetPair, Insn, Insns, PutPair, Reg, Segment,
     SegmentKind, SizeChoice, Source, ValueChoice,
 };
-use erl_base::{Duplicate, FunKey, LabelId, List, Name, NoMemory};
+use erl_base::{Boxed, Duplicate, FunKey, LabelId, List, Name, NoMemory};
 use erl_term::Term;
 use std::alloc::Global;
 use std::test::Fail;
@@ -18,10 +18,17 @@ fn copied_arity(alloc: Global) -> Result<u32, NoMemory> {
 
 fn copied_key(alloc: Global) -> Result<Source, NoMemory> {
     let pair = PutPair {
-        key: Source::Literal(Term::Int(7)),
+        key: Source::Literal(Boxed::new(alloc, Term::Int(7))?),
         value: Source::Nil,
     };
     Ok(pair.copy(alloc)?.key)
+}
+
+fn is_seven(source: &Source) -> bool {
+    match source {
+        Source::Literal(term) => matches!(term.get(), Term::Int(7)),
+        _ => false,
+    }
 }
 
 fn copied_target(alloc: Global) -> Result<Reg, NoMemory> {
@@ -73,7 +80,7 @@ fn copied_unit(alloc: Global) -> Result<u32, NoMemory> {
 fn operands_are_copied(rt: HostRuntime) -> Result<(), Fail> {
     let alloc = rt.alloc();
     assert!(rt; copied_arity(alloc)? == 2);
-    assert!(rt; matches!(&copied_key(alloc)?, Source::Literal(Term::Int(7))));
+    assert!(rt; is_seven(&copied_key(alloc)?));
     assert!(rt; copied_target(alloc)? == Reg::Y(3));
     assert!(rt; copied_label(alloc)? == LabelId(9));
     assert!(rt; copied_unit(alloc)? == 8);

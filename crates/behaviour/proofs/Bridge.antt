@@ -124,7 +124,7 @@ leaves-reverse (x ∷ xs) (n ∷ ns) h = ⊎_elim
     (skip_last (reverse xs) (reverse (n ∷ ns)) x (leaves-reverse xs (n ∷ ns) e.1) e.0)) h
 
 module _ (choices : List Bool) where
-  reaches_said : (r : Ran) (e : Meant) → Ways.Reaches r e → Said.Reaches r (ordered choices e)
+  reaches_said : (r : Ran) (e : Meant) → Ways.Reaches r e → Said.ReachesResult r (ordered choices e)
   reaches_said r e w = record {
     happenings = ap reverse w.noted.happened ∙ sym (happenings-reverse e.notes);
     sites = ap reverse w.noted.entered ∙ sym (sites-reverse e.notes);
@@ -136,10 +136,10 @@ module _ (choices : List Bool) where
     same_bound : (k : ℕ) → bound_of (run k) ≡ length (sites_in (run k))
     same_bound k = sym (length-reverse (sites (run k).log))
 
-    prefix_said : (xs ys : List Happening) → Ways.IsPrefix xs ys → Said.IsPrefix (reverse xs) (reverse ys)
+    prefix_said : (xs ys : List Happening) → Ways.IsSuffix xs ys → Said.IsPrefix (reverse xs) (reverse ys)
     prefix_said xs ys h = (reverse h.0, sym (reverse-append h.0 xs) ∙ sym (ap reverse h.1))
 
-    pub follows_said : Ways.Follows run eval → Whole.Follows run (λ n. ordered choices (eval n))
+    pub follows_said : Ways.Follows run eval → Whole.FollowsResults run (λ n. ordered choices (eval n))
     follows_said w = record {
       core_run_is_matched = λ n. let v = w.reaches n in (v.0, reaches_said _ _ v.1);
       machine_run_is_matched = λ k. let v = w.within k in record {

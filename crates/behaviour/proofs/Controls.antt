@@ -20,7 +20,7 @@ use Rattle.behaviour.proofs.Small.{code, bodies, keeps, bodies_realized}
 use Rattle.behaviour.specs.Called.{Called, export_keys}
 use Rattle.behaviour.specs.Matched.{FollowsCosts, StaysWithin, sites_in}
 use Rattle.behaviour.specs.FunctionsGiveModule.{Realized}
-use Rattle.behaviour.specs.SameBehaviour.{SameBehaviour, TailCalls, CheapCalls, Follows}
+use Rattle.behaviour.specs.SameBehaviour.{SameBehaviour, TailCalls, CheapCalls, FollowsResults}
 
 abbrev pub at1 : Place
 at1 = record { line = 1; column = 1 }
@@ -80,7 +80,7 @@ module _ (x : Script) where
   never_bad (suc zero) e = cc
   never_bad (suc (suc k)) e = cc
 
-  follows : Follows (asm_run (asm 1) one [] x) (evaluated core one [] x)
+  follows : FollowsResults (asm_run (asm 1) one [] x) (evaluated core one [] x)
   unfolding evaluated asm_run run result
   follows = record {
     core_run_is_matched = λ n. (2, record { happenings = refl; sites = refl; end = refl; examined = tt });
@@ -107,8 +107,8 @@ one_same = record {
   interface = record { name = refl; attributes = refl; exports = refl };
   follows = λ f vs x c.
       let e = called f vs x c in
-      subst (λ g. Follows (asm_run (asm 1) g vs x) (evaluated core g vs x)) e.0
-      (subst (λ us. Follows (asm_run (asm 1) one us x) (evaluated core one us x)) e.1 (follows x));
+      subst (λ g. FollowsResults (asm_run (asm 1) g vs x) (evaluated core g vs x)) e.0
+      (subst (λ us. FollowsResults (asm_run (asm 1) one us x) (evaluated core one us x)) e.1 (follows x));
 }
 
 -- The same from its function alone: what the function does gives the module, and its tail calls.

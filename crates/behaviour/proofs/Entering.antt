@@ -3,7 +3,7 @@ use Rattle.std.proofs.Common.{◌≡◌, ◌+◌, ℕ, suc, List, [], ◌∷◌,
 use Rattle.erl_term.specs.Term.{Term}
 use Rattle.world_model.specs.World.{Script}
 use Rattle.core_meaning.specs.CoreRun as E
-use Rattle.beam_table.specs.Calls.{enters, below, function_at, do_call, do_call_only}
+use Rattle.beam_table.specs.Calls.{enters, suspended, function_at, do_call, do_call_only}
 use Rattle.beam_table.specs.Code.{Insn, AsmFun, AsmModule}
 use Rattle.beam_table.specs.GeneralRules.{Effect, all_set, needs, arguments, cells, entry_at, if_some}
 use Rattle.beam_table.specs.MachineRun.{start}
@@ -66,11 +66,11 @@ module _ (a : AsmModule) (l s : ℕ) (f : AsmFun) (vs : List Term) (found : entr
       u = record m { xs = cells vs; frame = None; window = None; room = 0 }
 
   pub call_enters : (ys : List Cell) (m : Machine) → (let u = record m { xs = cells vs; frame = Some ys; window = None } in
-      do_call a (length vs) l u ≡ enters a false s f (cells vs) (below (record u { room = 0 })))
+      do_call a (length vs) l u ≡ enters a false s f (cells vs) (suspended (record u { room = 0 })))
   call_enters ys m =
-      ap (λ b. needs b (function_at a l (length vs) λ t g. enters a false t g (take (length vs) (cells vs)) (below u))) (cells_set vs)
-      ∙ function_found (λ t g. enters a false t g (take (length vs) (cells vs)) (below u))
-      ∙ ap (λ ds. enters a false s f ds (below u)) (cells_take vs)
+      ap (λ b. needs b (function_at a l (length vs) λ t g. enters a false t g (take (length vs) (cells vs)) (suspended u))) (cells_set vs)
+      ∙ function_found (λ t g. enters a false t g (take (length vs) (cells vs)) (suspended u))
+      ∙ ap (λ ds. enters a false s f ds (suspended u)) (cells_take vs)
     where
       u : Machine
       u = record m { xs = cells vs; frame = Some ys; window = None; room = 0 }

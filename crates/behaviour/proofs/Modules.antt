@@ -18,7 +18,7 @@ use Rattle.behaviour.specs.MachineTarget.{target}
 use Rattle.behaviour.specs.Called.{Called}
 use Rattle.behaviour.specs.Matched.{FollowsTails}
 use Rattle.behaviour.specs.FunctionsGiveModule.{Realized, FunctionsGiveModule}
-use Rattle.behaviour.specs.SameBehaviour.{Follows, SameInterface, SameBehaviour, TailCalls}
+use Rattle.behaviour.specs.SameBehaviour.{FollowsResults, SameInterface, SameBehaviour, TailCalls}
 
 module _ (m : Module) (a : AsmModule) (f : FunKey) (vs : Values) (x : Script) (r : Realized m a f vs x) where
   means : ℕ → Result
@@ -35,11 +35,11 @@ module _ (m : Module) (a : AsmModule) (f : FunKey) (vs : Values) (x : Script) (r
   unfolding runs asm_run
   runs_asm = λ i k. run (step a) k (start x vs (sym r.code i)) x.replies []
 
-  pub call_follows : Follows (asm_run a f vs x) (evaluated m f vs x)
+  pub call_follows : FollowsResults (asm_run a f vs x) (evaluated m f vs x)
   unfolding means runs
   call_follows =
-      subst (λ z. Follows z (evaluated m f vs x)) runs_asm
-      (subst (λ z. Follows runs z) means_evaluated
+      subst (λ z. FollowsResults z (evaluated m f vs x)) runs_asm
+      (subst (λ z. FollowsResults runs z) means_evaluated
       (follows_said x.choices runs _ (kept_follows (target a x.own) m.name x.own r.bodies r.realized r.keep [] (λ u s. refl) (λ c u s. refl)
       (known_export m f) vs (start x vs r.function.code) x.replies (start_at_entry a (known_export m f) r.function x vs r.found r.arity) (E.start x) (λ k. refl)
       (λ k. record { replies = refl; noted = record { happened = refl; entered = refl; tails = tt; looked = tt }; mailbox = start_holds k x vs r.function.code }))))

@@ -14,8 +14,8 @@ use Rattle.core_form.specs.Core.{Expr, literal, var, fun, Defs, no_def, and_def,
 use Rattle.core_form.specs.Scope.{Scope, variable, function, binding, function_of, with_names, numbers_from, names_of, body_of}
 use Rattle.core_form.specs.Captures.{sites_in}
 use Rattle.core_form.specs.Sites.{Site, named_site, module_scope, own_sites}
-use Rattle.core_meaning.specs.Calls.{Here}
-use Rattle.core_meaning.specs.Context.{Context, held, holding, value_of}
+use Rattle.core_meaning.specs.Calls.{Activation}
+use Rattle.core_meaning.specs.EvaluationContext.{EvaluationContext, held, holding, value_of}
 use Rattle.core_meaning.specs.Evaluation.{eval}
 use Rattle.core_meaning.specs.CoreRun.{run_site}
 use Rattle.beam_table.specs.ValidModule.{is_key, keys_distinct}
@@ -114,7 +114,7 @@ held_at b (suc n) ms (v ∷ vs) (suc j) k t l p q =
 
 -- A body.
 
-abbrev pub at_body : Scope → List Binder → List ℕ → Values → ℕ → Context
+abbrev pub at_body : Scope → List Binder → List ℕ → Values → ℕ → EvaluationContext
 at_body g bs ms vs k = record {
   scope = with_names g (names_of bs);
   env = holding (numbers_from (length g) (length bs) ++ ms) vs [];
@@ -123,7 +123,7 @@ at_body g bs ms vs k = record {
   lets = [];
 }
 
-value_held : (c : Context) (x : Name) (o : Option ℕ) (n : ℕ) → binding c.scope x ≡ Some n → value_of c x ≡ held c.env n
+value_held : (c : EvaluationContext) (x : Name) (o : Option ℕ) (n : ℕ) → binding c.scope x ≡ Some n → value_of c x ≡ held c.env n
 value_held c x o n e = ap (λ z. elim z [ None ↦ None | Some k ↦ held c.env k ]) e
 
 as_some : (o : Option ℕ) (b : PlainBody) (j : ℕ) → as_parameter o ≡ Some b → b ≡ parameter j → o ≡ Some j
@@ -134,7 +134,7 @@ as_some (Some i) b j q p = let e : parameter i ≡ parameter j = some_is (parame
     place (parameter k) = k
     place _ = i
 
-module _ (here : Here) (g : Scope) (bs : List Binder) (ms : List ℕ) (vs : Values) (k : ℕ) where
+module _ (here : Activation) (g : Scope) (bs : List Binder) (ms : List ℕ) (vs : Values) (k : ℕ) where
   var_gives : (p : Place) (x : Name) (j : ℕ) (t : Term) → place_of x bs ≡ Some j → slice_get vs j ≡ Some t → eval here (var p x) (at_body g bs ms vs k) ≡ single t
   unfolding eval
   var_gives p x j t e q =
@@ -156,7 +156,7 @@ module _ (here : Here) (g : Scope) (bs : List Binder) (ms : List ℕ) (vs : Valu
 
 -- A definition, as a site.
 
-site_gives : (here : Here) (p : Place) (f : FunKey) (e : Expr) (g : Scope) (n : ℕ) (vs : Values) (h : PlainFun) (t : Term) → IsPlainFun f e h → given h.body vs ≡ Some t →
+site_gives : (here : Activation) (p : Place) (f : FunKey) (e : Expr) (g : Scope) (n : ℕ) (vs : Values) (h : PlainFun) (t : Term) → IsPlainFun f e h → given h.body vs ≡ Some t →
     run_site here (Some (named_site p f e g [] n)) vs ≡ give t
 unfolding run_site
 site_gives here p f e g n vs h t w q =
@@ -166,7 +166,7 @@ site_gives here p f e g n vs h t w q =
 -- The definitions of a module.
 
 pub found_site : (ds : Defs) (hs : List PlainFun) (f : FunKey) (i : ℕ) (h : PlainFun) (g : Scope) (k : ℕ) (rest : List Site) (vs : Values) (t : Term) →
-    IsPlain ds hs → Found hs f i h → given h.body vs ≡ Some t → (here : Here) → run_site here (slice_get (own_sites ds g k ++ rest) i) vs ≡ give t
+    IsPlain ds hs → Found hs f i h → given h.body vs ≡ Some t → (here : Activation) → run_site here (slice_get (own_sites ds g k ++ rest) i) vs ≡ give t
 found_site no_def [] f i h g k rest vs t a w q here = absurd w
 found_site no_def (h0 ∷ hs) f i h g k rest vs t a w q here = absurd a
 found_site (and_def d ds) [] f i h g k rest vs t a w q here = absurd a

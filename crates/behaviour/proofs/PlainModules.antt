@@ -7,7 +7,7 @@ use Rattle.world_model.specs.World.{Script}
 use Rattle.world_model.specs.Run.{State, Outcome, give}
 use Rattle.core_form.specs.Core.{Module}
 use Rattle.core_form.specs.Sites.{module_scope, inner_sites, def_count, module_sites}
-use Rattle.core_meaning.specs.Calls.{Here}
+use Rattle.core_meaning.specs.Calls.{Activation}
 use Rattle.core_meaning.specs.CoreRun as E
 use Rattle.core_meaning.specs.CoreRun.{Known, apart_of, run_site, deep, known, known_export, site_named, ended, evaluated}
 use Rattle.step_machine.specs.Steps.{Ran, run}
@@ -16,7 +16,7 @@ use Rattle.beam_table.specs.MachineRun.{start, code_of, asm_run}
 use Rattle.beam_table.specs.ValidModule.{every, is_key}
 use Rattle.behaviour.specs.Called.{Called, export_keys}
 use Rattle.behaviour.specs.Matched.{FollowsTails, FollowsCosts}
-use Rattle.behaviour.specs.SameBehaviour.{Follows}
+use Rattle.behaviour.specs.SameBehaviour.{FollowsResults}
 use Rattle.behaviour.specs.PlainModules.{PlainFun, plain_code, plain_asm, plain_assembly, IsPlainModule, PlainModulesBehave}
 use Rattle.behaviour.proofs.Keys.{and_true}
 use Rattle.behaviour.proofs.Simple.{plainly, simple_follows, simple_tails, simple_costs}
@@ -30,7 +30,7 @@ every_at p (y ∷ ys) x e (zero, l, q) = subst (λ z. p z ≡ true) q (and_true 
 every_at p (y ∷ ys) x e (suc k, l, q) = every_at p ys x (and_true (p y) (every p ys) e).1 (k, omega (arith, l), q)
 
 -- entering a function does what its site does
-deep_gives : (m : Known) (d n : ℕ) (vs : Values) (t : Term) → ((here : Here) → run_site here (slice_get m.sites n) vs ≡ give t) → deep m (suc d) n vs ≡ give t
+deep_gives : (m : Known) (d n : ℕ) (vs : Values) (t : Term) → ((here : Activation) → run_site here (slice_get m.sites n) vs ≡ give t) → deep m (suc d) n vs ≡ give t
 unfolding deep
 deep_gives m d n vs t h = h (record {
   name = m.name;
@@ -56,7 +56,7 @@ module _ (m : Module) (hs : List PlainFun) (w : IsPlainModule m hs) (f : FunKey)
       ap site_named (found_scope m.defs hs f found.0 found.1 0 [] plain w.distinct found.2)
       ∙ omega arith
 
-  site_gives : (here : Here) → run_site here (slice_get (module_sites m) found.0) vs ≡ give value.0
+  site_gives : (here : Activation) → run_site here (slice_get (module_sites m) found.0) vs ≡ give value.0
   site_gives here =
       let g = module_scope m.defs 0 [] in
       found_site m.defs hs f found.0 found.1 g (def_count m.defs) (inner_sites m.defs g (def_count m.defs)) vs value.0 plain found.2 value.1 here
@@ -78,7 +78,7 @@ module _ (m : Module) (hs : List PlainFun) (w : IsPlainModule m hs) (f : FunKey)
   run_gives = subst (λ is. Gives (λ k. run (step (plain_assembly m hs)) k (start x vs is) x.replies []) value.0) (sym code_is)
       (code_gives (plain_assembly m hs) x found.1.body vs value.0 value.1)
 
-  pub plain_follows : Follows (asm_run (plain_assembly m hs) f vs x) (evaluated m f vs x)
+  pub plain_follows : FollowsResults (asm_run (plain_assembly m hs) f vs x) (evaluated m f vs x)
   unfolding runs
   plain_follows = simple_follows runs (evaluated m f vs x) value.0 run_gives.done run_gives.is_done run_gives.simple means
 

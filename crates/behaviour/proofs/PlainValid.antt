@@ -7,7 +7,8 @@ use Rattle.erl_term.specs.Term as T
 use Rattle.core_form.specs.declared.tree.Binder.{Binder}
 use Rattle.core_form.specs.Core.{Expr, literal, var, Defs, no_def, and_def, def}
 use Rattle.beam_table.specs.OperandBounds.{label_ok}
-use Rattle.beam_table.specs.ValidModule.{every, is_among, distinct, labels_in, all_labels, entries_of, fun_ok, is_key, keys_distinct}
+use Rattle.erl_base.specs.Lists.{among}
+use Rattle.beam_table.specs.ValidModule.{every, distinct, labels_in, all_labels, entries_of, fun_ok, is_key, keys_distinct}
 use Rattle.behaviour.specs.Called.{without, each_once, export_keys}
 use Rattle.behaviour.specs.PlainModules.{PlainBody, number, atom, parameter, PlainFun, plain_code, plain_asm, place_of, as_parameter, plain_body, plain_fun, body_fits, fun_fits, PlainAssemblyIsValid}
 use Rattle.behaviour.proofs.Keys.{and_true, or_false, some_is}
@@ -46,7 +47,7 @@ numbered_fit k (h ∷ hs) l =
     both _ _ (label_fits (2 * k + 1) (omega arith) (omega (arith, l)))
     (both _ _ (label_fits (2 * k + 2) (omega arith) (omega (arith, l))) (numbered_fit (suc k) hs (omega (arith, l))))
 
-not_among : (l k : ℕ) (hs : List PlainFun) → l < 2 * k + 1 → is_among l (numbered k hs) ≡ false
+not_among : (l k : ℕ) (hs : List PlainFun) → l < 2 * k + 1 → among l (numbered k hs) ≡ false
 unfolding numbered
 not_among l k [] b = refl
 not_among l k (h ∷ hs) b =

@@ -7,7 +7,7 @@ use Rattle.world_model.specs.Run as Run
 use Rattle.world_model.specs.Meaning.{one, single}
 use Rattle.world_model.specs.Run.{State, Outcome, gives, raises, waits, spent, M, ◌>>=◌, after, going_on, give, noting, Entry}
 use Rattle.world_model.specs.World.{Reply}
-use Rattle.core_meaning.specs.Calls.{entry_left}
+use Rattle.world_model.specs.Entries.{entry_left}
 use Rattle.step_machine.specs.Bodies.{Here, Bodies, entered_deep, calling}
 use Rattle.step_machine.specs.Steps.{Note, Stepped, goes, ends, notes, ran, unfinished, perform, run, sites}
 use Rattle.behaviour.specs.Realizes.{Target, Matches, Comes, To, Stands, Realizes, RealizesAll, BodiesRealized}

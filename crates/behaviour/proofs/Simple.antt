@@ -4,8 +4,8 @@ use Rattle.erl_term.specs.Term.{Term}
 use Rattle.world_model.specs.Run.{gives}
 use Rattle.core_meaning.specs.CoreRun.{Result}
 use Rattle.step_machine.specs.Steps.{Ran, ran, over, unfinished, is_bad}
-use Rattle.behaviour.specs.Matched.{Reaches, StaysWithin, KeepsTailEntries, Costs, FollowsTails, FollowsCosts}
-use Rattle.behaviour.specs.SameBehaviour.{Follows}
+use Rattle.behaviour.specs.Matched.{ReachesResult, StaysWithin, KeepsTailEntries, Costs, FollowsTails, FollowsCosts}
+use Rattle.behaviour.specs.SameBehaviour.{FollowsResults}
 
 -- what a meaning gives that notes nothing
 abbrev pub plainly : Term → Result
@@ -17,11 +17,11 @@ IsSimple r t = (r ≡ ran [] unfinished) ⊎ (r ≡ ran [] (over (gives t)))
 
 module _ (run : ℕ → Ran) (eval : ℕ → Result) (t : Term) (done : ℕ) (is_done : run done ≡ ran [] (over (gives t)))
     (simple : (k : ℕ) → IsSimple (run k) t) (means : (n : ℕ) → eval n ≡ plainly t) where
-  reaches_plainly : Reaches (ran [] (over (gives t))) (plainly t)
+  reaches_plainly : ReachesResult (ran [] (over (gives t))) (plainly t)
   reaches_plainly = record { happenings = refl; sites = refl; end = refl; examined = tt }
 
-  reaches : (n : ℕ) → Reaches (run done) (eval n)
-  reaches n = subst (λ r. Reaches r (eval n)) (sym is_done) (subst (λ e. Reaches (ran [] (over (gives t))) e) (sym (means n)) reaches_plainly)
+  reaches : (n : ℕ) → ReachesResult (run done) (eval n)
+  reaches n = subst (λ r. ReachesResult r (eval n)) (sym is_done) (subst (λ e. ReachesResult (ran [] (over (gives t))) e) (sym (means n)) reaches_plainly)
 
   within_plainly : (r : Ran) → IsSimple r t → StaysWithin r (plainly t)
   within_plainly r (inl e) = subst (λ z. StaysWithin z (plainly t)) (sym e) (record { happenings = ([], refl); sites = refl; ends = λ o q. absurd cc })
@@ -31,7 +31,7 @@ module _ (run : ℕ → Ran) (eval : ℕ → Result) (t : Term) (done : ℕ) (is
   not_bad r (inl e) q = let d : unfinished ≡ is_bad = sym (ap (λ z. z.end) e) ∙ q in cc
   not_bad r (inr e) q = let d : over (gives t) ≡ is_bad = sym (ap (λ z. z.end) e) ∙ q in cc
 
-  pub simple_follows : Follows run eval
+  pub simple_follows : FollowsResults run eval
   simple_follows = record {
     core_run_is_matched = λ n. (done, reaches n);
     machine_run_is_matched = λ k. subst (λ e. StaysWithin (run k) e) (sym (means _)) (within_plainly (run k) (simple k));

@@ -25,7 +25,7 @@ IsPrefix xs ys = (later : List Happening) × (xs ++ later ≡ ys)
 
 -- the same happenings, the same sites entered, and the same end, or none yet where the bound is met;
 -- of the messages that were looked at only some that no clause accepted are left out
-pub record Reaches (r : Ran) (e : Result) : Type 0 where
+pub record ReachesResult (r : Ran) (e : Result) : Type 0 where
   pub happenings : happened_in r ≡ e.happenings
   pub sites : sites_in r ≡ site_list e.entries
   pub end : EndsAs r.end e.end
@@ -48,7 +48,7 @@ pub record Costs (r : Ran) (e : Result) : Type 0 where
   pub subs : Steps.subs r.log ≤ e.subs
 
 abbrev pub FollowsTails : (ℕ → Ran) → (ℕ → Result) → Type 0
-FollowsTails run eval = (n : ℕ) → (k : ℕ) × Reaches (run k) (eval n) × KeepsTailEntries (run k) (eval n)
+FollowsTails run eval = (n : ℕ) → (k : ℕ) × ReachesResult (run k) (eval n) × KeepsTailEntries (run k) (eval n)
 
 abbrev pub FollowsCosts : (ℕ → Ran) → (ℕ → Result) → Type 0
-FollowsCosts run eval = (n : ℕ) → (k : ℕ) × Reaches (run k) (eval n) × Costs (run k) (eval n)
+FollowsCosts run eval = (n : ℕ) → (k : ℕ) × ReachesResult (run k) (eval n) × Costs (run k) (eval n)

@@ -7,7 +7,7 @@ use Rattle.core_form.specs.declared.tree.Binder.{Binder}
 use Rattle.core_form.specs.Core.{Module, Expr, literal, var, fun, Defs, no_def, and_def, def}
 use Rattle.beam_table.specs.Code as C
 use Rattle.beam_table.specs.Code.{Insn, move, return, x_reg, AsmFun, AsmModule}
-use Rattle.beam_table.specs.TextRange.{in_signed}
+use Rattle.erl_term.specs.Ranges.{is_within_128}
 use Rattle.beam_table.specs.ValidModule.{every, is_key, keys_distinct, attribute_ok, Valid}
 use Rattle.behaviour.specs.Called.{export_keys, each_once}
 use Rattle.behaviour.specs.SameBehaviour.{SameBehaviour, TailCalls, CheapCalls}
@@ -88,7 +88,7 @@ PlainModulesBehave = (m : Module) (hs : List PlainFun) → IsPlainModule m hs �
 
 -- small enough for an assembly text
 abbrev pub body_fits : PlainBody → Bool
-body_fits (number z) = in_signed z
+body_fits (number z) = is_within_128 z
 body_fits (atom a) = true
 body_fits (parameter j) = true
 

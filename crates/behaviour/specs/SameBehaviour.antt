@@ -9,7 +9,7 @@ use Rattle.step_machine.specs.Steps.{Ran, is_bad}
 use Rattle.beam_table.specs.Code.{AsmModule}
 use Rattle.beam_table.specs.MachineRun.{asm_run}
 use Rattle.behaviour.specs.Called.{Called, export_keys, each_once}
-use Rattle.behaviour.specs.Matched.{sites_in, Reaches, StaysWithin, FollowsTails, FollowsCosts}
+use Rattle.behaviour.specs.Matched.{sites_in, ReachesResult, StaysWithin, FollowsTails, FollowsCosts}
 
 pub record SameInterface (m : Module) (a : AsmModule) : Type 0 where
   pub name : a.name ≡ m.name
@@ -17,15 +17,15 @@ pub record SameInterface (m : Module) (a : AsmModule) : Type 0 where
   pub exports : a.exports ≡ each_once (export_keys m)
 
 -- run k: with k steps; eval n: with at most n entries
-pub record Follows (run : ℕ → Ran) (eval : ℕ → Result) : Type 0 where
-  pub core_run_is_matched : (n : ℕ) → (k : ℕ) × Reaches (run k) (eval n)
+pub record FollowsResults (run : ℕ → Ran) (eval : ℕ → Result) : Type 0 where
+  pub core_run_is_matched : (n : ℕ) → (k : ℕ) × ReachesResult (run k) (eval n)
   pub machine_run_is_matched : (k : ℕ) → StaysWithin (run k) (eval (length (sites_in (run k))))
   pub never_bad : (k : ℕ) → (run k).end ≢ is_bad
 
 pub record SameBehaviour (m : Module) (a : AsmModule) : Type 0 where
   pub interface : SameInterface m a
   pub follows : (f : FunKey) (vs : List Term) (x : Script) → Called m f vs x →
-      Follows (asm_run a f vs x) (evaluated m f vs x)
+      FollowsResults (asm_run a f vs x) (evaluated m f vs x)
 
 -- where a run reaches what the module does, its tail entries stay tail entries
 abbrev pub TailCalls : Module → AsmModule → Type 0

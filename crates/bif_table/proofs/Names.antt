@@ -6,10 +6,7 @@ use borrow.Author.Tests.{eqb-true, eq-eqb, ltb-true}
 use Rattle.std.proofs.lemmas.Str.{chars-IsAscii}
 use Rattle.std.specs.List.{list_all}
 use Rattle.erl_base.specs.Names.{same_name}
-use Rattle.bif_table.specs.Builtins.{is_row, arity_of}
-use Rattle.bif_table.specs.declared.table.Bif.{Bif}
-use Rattle.bif_table.specs.declared.table.Bif.TheVariants as V
-use Rattle.bif_table.specs.View.{name_of, bif_view, row_view}
+use Rattle.bif_table.specs.Builtins.{Bif, Add, bif_name, arity_of, row_of_bif, is_row}
 
 chars_one : (a b : List ℕ) → IsUtf8 a → IsUtf8 b → chars a ≡ chars b → a ≡ b
 chars_one a b u v e = sym (encodes-chars a u) ∙ ap encodes e ∙ encodes-chars b v
@@ -53,16 +50,16 @@ below_all (c ∷ cs) e zero = ltb-true c 128 (left (nat_lt c 128) _ e)
 below_all (c ∷ cs) e (suc i) = below_all cs (right (nat_lt c 128) _ e) i
 
 -- the names of the table are ASCII, so that their bytes are their characters
-name_tested : (b : Bif) → list_all (λ c. nat_lt c 128) (name_of b) ≡ true
-name_tested V.Add = refl
+name_tested : (b : Bif) → list_all (λ c. nat_lt c 128) (bif_name b) ≡ true
+name_tested Add = refl
 name_tested b = refl
 
-pub name_chars : (b : Bif) → chars (name_of b) ≡ name_of b
-name_chars b = chars-IsAscii (name_of b) (below_all (name_of b) (name_tested b))
+pub name_chars : (b : Bif) → chars (bif_name b) ≡ bif_name b
+name_chars b = chars-IsAscii (bif_name b) (below_all (bif_name b) (name_tested b))
 
 -- the rest of a row whose arity is the wanted one
-pub row_named : (b : Bif) (t : Bool) (f n : List ℕ) (a : ℕ) → IsTrue t ↔ (f ≡ chars n) → n ≡ name_of b → arity_of (bif_view b) ≡ a
-    → t ≡ is_row (row_view b) f a
+pub row_named : (b : Bif) (t : Bool) (f n : List ℕ) (a : ℕ) → IsTrue t ↔ (f ≡ chars n) → n ≡ bif_name b → arity_of b ≡ a
+    → t ≡ is_row (row_of_bif b) f a
 row_named b t f n a h e k =
-    decided t f (name_of b) (λ p. h.0 p ∙ ap chars e ∙ name_chars b, λ p. h.1 (p ∙ sym (name_chars b) ∙ sym (ap chars e)))
-    ∙ ap (λ c. c && same_name (name_of b) f) (sym (eq-eqb (arity_of (bif_view b)) a k))
+    decided t f (bif_name b) (λ p. h.0 p ∙ ap chars e ∙ name_chars b, λ p. h.1 (p ∙ sym (name_chars b) ∙ sym (ap chars e)))
+    ∙ ap (λ c. c && same_name (bif_name b) f) (sym (eq-eqb (arity_of b) a k))

@@ -1,25 +1,16 @@
 -- Each listed function on a value, and each that can raise on arguments that it refuses.
-use Rattle.std.proofs.Common.{◌≡◌, List, [], ◌∷◌, true, false, pos, negsuc, codes, refl, not, eqb}
-use Rattle.std.specs.List.{list_all}
+use Rattle.std.proofs.Common.{◌≡◌, List, [], ◌∷◌, Some, true, false, pos, negsuc, codes, refl}
 use Rattle.erl_term.specs.Term as T
 use Rattle.erl_term.specs.Term.{Term, none, more, no_pair, pair}
 use Rattle.erl_term.specs.Terms.{word, truth}
 use Rattle.bif_table.specs.Builtins as B
-use Rattle.bif_table.specs.Builtins.{Bif, guard_rows, raising_rows, is_guard, arity_of}
+use Rattle.bif_table.specs.Builtins.{Bif, lookup, bif_name, arity_of}
 use Rattle.bif_table.specs.BuiltinAnswer.{Answer, value, raised, badarg, badarith, badmap, badkey, answer}
 
--- the table and the functions by cases say the same
-guards_may_be_called : list_all (λ r. is_guard r.bif) guard_rows ≡ true
-guards_may_be_called = refl
-
-raising_may_not : list_all (λ r. not (is_guard r.bif)) raising_rows ≡ true
-raising_may_not = refl
-
-guard_arities : list_all (λ r. eqb r.arity (arity_of r.bif)) guard_rows ≡ true
-guard_arities = refl
-
-raising_arities : list_all (λ r. eqb r.arity (arity_of r.bif)) raising_rows ≡ true
-raising_arities = refl
+-- each function is found by its name and arity
+lookup-bif_name : (b : Bif) → lookup (bif_name b) (arity_of b) ≡ Some b
+lookup-bif_name B.Add = refl
+lookup-bif_name b = refl
 
 abbrev couple : Term
 couple = T.tuple (more (word (codes "a")) (more (T.int (pos 1)) none))

@@ -1,8 +1,8 @@
 -- The functions of the module erlang that a run answers itself (Erlang/OTP 25, module erlang), by name and arity.
-use Rattle.std.specs.Prelude.{ℕ, List, [], ◌∷◌, Bool, true, false, ◌&&◌, eqb, Option, Some, None, codes}
+use Rattle.std.specs.Prelude.{ℕ, List, [], ◌∷◌, Bool, true, false, not, ◌&&◌, eqb, Option, Some, None, codes}
 use Rattle.erl_base.specs.Names.{Name, same_name}
 
--- a number after a name is the arity, where two functions have the name
+-- the listed functions; a number after a name is the arity, where two functions have the name
 pub data Bif : Type 0 where
   Add Subtract Multiply Plus Negate Div Rem : Bif
   Band Bor Bxor Bnot Bsl Bsr : Bif
@@ -14,124 +14,130 @@ pub data Bif : Type 0 where
   Element TupleSize Size ByteSize BitSize Length Hd Tl MapSize IsMapKey MapGet Self : Bif
   Error1 Error2 Exit1 Throw1 : Bif
 
-pub record Row : Type 0 where
+-- who calls a function: guards and bodies; the same, where the machine collects first, since the number that is answered
+-- may take room of its own; bodies alone, since it always raises
+pub data Group : Type 0 where
+  plain collecting raising : Group
+
+-- a row of the table
+pub record BifRow : Type 0 where
   pub name : Name
   pub arity : ℕ
-  pub bif : Bif
+  pub group : Group
 
-abbrev pub row : Name → ℕ → Bif → Row
-row f n b = record { name = f; arity = n; bif = b }
+-- a row written in one line
+abbrev pub bif_row : Name → ℕ → Group → BifRow
+bif_row f n g = record { name = f; arity = n; group = g }
 
--- the functions that a guard may call
-abbrev pub guard_rows : List Row
-guard_rows =
-    row (codes "+") 2 Add ∷ row (codes "-") 2 Subtract ∷ row (codes "*") 2 Multiply
-    ∷ row (codes "+") 1 Plus ∷ row (codes "-") 1 Negate ∷ row (codes "div") 2 Div ∷ row (codes "rem") 2 Rem
-    ∷ row (codes "band") 2 Band ∷ row (codes "bor") 2 Bor ∷ row (codes "bxor") 2 Bxor ∷ row (codes "bnot") 1 Bnot
-    ∷ row (codes "bsl") 2 Bsl ∷ row (codes "bsr") 2 Bsr
-    ∷ row (codes "abs") 1 Abs ∷ row (codes "round") 1 Round ∷ row (codes "trunc") 1 Trunc
-    ∷ row (codes "ceil") 1 Ceil ∷ row (codes "floor") 1 Floor
-    ∷ row (codes "==") 2 Equals ∷ row (codes "=:=") 2 Exactly ∷ row (codes "/=") 2 Differs ∷ row (codes "=/=") 2 ExactlyNot
-    ∷ row (codes "<") 2 Below ∷ row (codes "=<") 2 AtMost ∷ row (codes ">") 2 Above ∷ row (codes ">=") 2 AtLeast
-    ∷ row (codes "and") 2 And ∷ row (codes "or") 2 Or ∷ row (codes "xor") 2 Xor ∷ row (codes "not") 1 Not
-    ∷ row (codes "is_atom") 1 IsAtom ∷ row (codes "is_binary") 1 IsBinary ∷ row (codes "is_bitstring") 1 IsBitstring
-    ∷ row (codes "is_boolean") 1 IsBoolean ∷ row (codes "is_float") 1 IsFloat ∷ row (codes "is_function") 1 IsFunction
-    ∷ row (codes "is_integer") 1 IsInteger ∷ row (codes "is_list") 1 IsList ∷ row (codes "is_map") 1 IsMap
-    ∷ row (codes "is_number") 1 IsNumber ∷ row (codes "is_pid") 1 IsPid ∷ row (codes "is_port") 1 IsPort
-    ∷ row (codes "is_reference") 1 IsReference ∷ row (codes "is_tuple") 1 IsTuple
-    ∷ row (codes "is_function") 2 IsFunction2 ∷ row (codes "is_record") 2 IsRecord2 ∷ row (codes "is_record") 3 IsRecord3
-    ∷ row (codes "element") 2 Element ∷ row (codes "tuple_size") 1 TupleSize ∷ row (codes "size") 1 Size
-    ∷ row (codes "byte_size") 1 ByteSize ∷ row (codes "bit_size") 1 BitSize ∷ row (codes "length") 1 Length
-    ∷ row (codes "hd") 1 Hd ∷ row (codes "tl") 1 Tl ∷ row (codes "map_size") 1 MapSize
-    ∷ row (codes "is_map_key") 2 IsMapKey ∷ row (codes "map_get") 2 MapGet ∷ row (codes "self") 0 Self ∷ []
+-- the table
+abbrev pub row_of_bif : Bif → BifRow
+row_of_bif Add = bif_row (codes "+") 2 collecting
+row_of_bif Subtract = bif_row (codes "-") 2 collecting
+row_of_bif Multiply = bif_row (codes "*") 2 collecting
+row_of_bif Plus = bif_row (codes "+") 1 collecting
+row_of_bif Negate = bif_row (codes "-") 1 collecting
+row_of_bif Div = bif_row (codes "div") 2 collecting
+row_of_bif Rem = bif_row (codes "rem") 2 collecting
+row_of_bif Band = bif_row (codes "band") 2 collecting
+row_of_bif Bor = bif_row (codes "bor") 2 collecting
+row_of_bif Bxor = bif_row (codes "bxor") 2 collecting
+row_of_bif Bnot = bif_row (codes "bnot") 1 collecting
+row_of_bif Bsl = bif_row (codes "bsl") 2 collecting
+row_of_bif Bsr = bif_row (codes "bsr") 2 collecting
+row_of_bif Abs = bif_row (codes "abs") 1 collecting
+row_of_bif Round = bif_row (codes "round") 1 collecting
+row_of_bif Trunc = bif_row (codes "trunc") 1 collecting
+row_of_bif Ceil = bif_row (codes "ceil") 1 collecting
+row_of_bif Floor = bif_row (codes "floor") 1 collecting
+row_of_bif Equals = bif_row (codes "==") 2 plain
+row_of_bif Exactly = bif_row (codes "=:=") 2 plain
+row_of_bif Differs = bif_row (codes "/=") 2 plain
+row_of_bif ExactlyNot = bif_row (codes "=/=") 2 plain
+row_of_bif Below = bif_row (codes "<") 2 plain
+row_of_bif AtMost = bif_row (codes "=<") 2 plain
+row_of_bif Above = bif_row (codes ">") 2 plain
+row_of_bif AtLeast = bif_row (codes ">=") 2 plain
+row_of_bif And = bif_row (codes "and") 2 plain
+row_of_bif Or = bif_row (codes "or") 2 plain
+row_of_bif Xor = bif_row (codes "xor") 2 plain
+row_of_bif Not = bif_row (codes "not") 1 plain
+row_of_bif IsAtom = bif_row (codes "is_atom") 1 plain
+row_of_bif IsBinary = bif_row (codes "is_binary") 1 plain
+row_of_bif IsBitstring = bif_row (codes "is_bitstring") 1 plain
+row_of_bif IsBoolean = bif_row (codes "is_boolean") 1 plain
+row_of_bif IsFloat = bif_row (codes "is_float") 1 plain
+row_of_bif IsFunction = bif_row (codes "is_function") 1 plain
+row_of_bif IsInteger = bif_row (codes "is_integer") 1 plain
+row_of_bif IsList = bif_row (codes "is_list") 1 plain
+row_of_bif IsMap = bif_row (codes "is_map") 1 plain
+row_of_bif IsNumber = bif_row (codes "is_number") 1 plain
+row_of_bif IsPid = bif_row (codes "is_pid") 1 plain
+row_of_bif IsPort = bif_row (codes "is_port") 1 plain
+row_of_bif IsReference = bif_row (codes "is_reference") 1 plain
+row_of_bif IsTuple = bif_row (codes "is_tuple") 1 plain
+row_of_bif IsFunction2 = bif_row (codes "is_function") 2 plain
+row_of_bif IsRecord2 = bif_row (codes "is_record") 2 plain
+row_of_bif IsRecord3 = bif_row (codes "is_record") 3 plain
+row_of_bif Element = bif_row (codes "element") 2 plain
+row_of_bif TupleSize = bif_row (codes "tuple_size") 1 plain
+row_of_bif Size = bif_row (codes "size") 1 collecting
+row_of_bif ByteSize = bif_row (codes "byte_size") 1 collecting
+row_of_bif BitSize = bif_row (codes "bit_size") 1 collecting
+row_of_bif Length = bif_row (codes "length") 1 collecting
+row_of_bif Hd = bif_row (codes "hd") 1 plain
+row_of_bif Tl = bif_row (codes "tl") 1 plain
+row_of_bif MapSize = bif_row (codes "map_size") 1 collecting
+row_of_bif IsMapKey = bif_row (codes "is_map_key") 2 plain
+row_of_bif MapGet = bif_row (codes "map_get") 2 plain
+row_of_bif Self = bif_row (codes "self") 0 plain
+row_of_bif Error1 = bif_row (codes "error") 1 raising
+row_of_bif Error2 = bif_row (codes "error") 2 raising
+row_of_bif Exit1 = bif_row (codes "exit") 1 raising
+row_of_bif Throw1 = bif_row (codes "throw") 1 raising
 
--- the functions that always raise
-abbrev pub raising_rows : List Row
-raising_rows = row (codes "error") 1 Error1 ∷ row (codes "error") 2 Error2 ∷ row (codes "exit") 1 Exit1 ∷ row (codes "throw") 1 Throw1 ∷ []
+-- all functions, in the order of the table
+abbrev pub all_bifs : List Bif
+all_bifs =
+    Add ∷ Subtract ∷ Multiply ∷ Plus ∷ Negate ∷ Div ∷ Rem ∷ Band ∷ Bor ∷ Bxor ∷ Bnot ∷ Bsl ∷ Bsr ∷ Abs ∷ Round
+    ∷ Trunc ∷ Ceil ∷ Floor ∷ Equals ∷ Exactly ∷ Differs ∷ ExactlyNot ∷ Below ∷ AtMost ∷ Above ∷ AtLeast ∷ And
+    ∷ Or ∷ Xor ∷ Not ∷ IsAtom ∷ IsBinary ∷ IsBitstring ∷ IsBoolean ∷ IsFloat ∷ IsFunction ∷ IsInteger ∷ IsList
+    ∷ IsMap ∷ IsNumber ∷ IsPid ∷ IsPort ∷ IsReference ∷ IsTuple ∷ IsFunction2 ∷ IsRecord2 ∷ IsRecord3
+    ∷ Element ∷ TupleSize ∷ Size ∷ ByteSize ∷ BitSize ∷ Length ∷ Hd ∷ Tl ∷ MapSize ∷ IsMapKey ∷ MapGet ∷ Self
+    ∷ Error1 ∷ Error2 ∷ Exit1 ∷ Throw1 ∷ []
 
-abbrev pub is_row : Row → Name → ℕ → Bool
+-- a function's name
+abbrev pub bif_name : Bif → Name
+bif_name b = (row_of_bif b).name
+
+-- how many arguments it takes
+abbrev pub arity_of : Bif → ℕ
+arity_of b = (row_of_bif b).arity
+
+-- and its group
+abbrev pub group_of : Bif → Group
+group_of b = (row_of_bif b).group
+
+-- a row of this name and arity
+abbrev pub is_row : BifRow → Name → ℕ → Bool
 is_row r f n = eqb r.arity n && same_name r.name f
 
-abbrev pub look_up : List Row → Name → ℕ → Option Bif
+-- the first of the functions with this name and arity
+abbrev pub look_up : List Bif → Name → ℕ → Option Bif
 look_up [] f n = None
-look_up (r ∷ rs) f n = elim (is_row r f n) [ true ↦ Some r.bif | false ↦ look_up rs f n ]
-
-abbrev pub either_bif : Option Bif → Option Bif → Option Bif
-either_bif None o = o
-either_bif (Some b) o = Some b
-
-abbrev pub lookup_guard : Name → ℕ → Option Bif
-lookup_guard f n = look_up guard_rows f n
-
-abbrev pub lookup_raising : Name → ℕ → Option Bif
-lookup_raising f n = look_up raising_rows f n
+look_up (b ∷ bs) f n = elim (is_row (row_of_bif b) f n) [ true ↦ Some b | false ↦ look_up bs f n ]
 
 -- the function of this name and arity, if it is listed
 abbrev pub lookup : Name → ℕ → Option Bif
-lookup f n = either_bif (lookup_guard f n) (lookup_raising f n)
+lookup f n = look_up all_bifs f n
 
+-- whether a guard may call it; the others always raise
 abbrev pub is_guard : Bif → Bool
-is_guard Error1 = false
-is_guard Error2 = false
-is_guard Exit1 = false
-is_guard Throw1 = false
-is_guard _ = true
+is_guard b = elim (group_of b) [ plain ↦ true | collecting ↦ true | raising ↦ false ]
 
-abbrev pub arity_of : Bif → ℕ
-arity_of Add = 2
-arity_of Subtract = 2
-arity_of Multiply = 2
-arity_of Div = 2
-arity_of Rem = 2
-arity_of Band = 2
-arity_of Bor = 2
-arity_of Bxor = 2
-arity_of Bsl = 2
-arity_of Bsr = 2
-arity_of Equals = 2
-arity_of Exactly = 2
-arity_of Differs = 2
-arity_of ExactlyNot = 2
-arity_of Below = 2
-arity_of AtMost = 2
-arity_of Above = 2
-arity_of AtLeast = 2
-arity_of And = 2
-arity_of Or = 2
-arity_of Xor = 2
-arity_of IsFunction2 = 2
-arity_of IsRecord2 = 2
-arity_of IsRecord3 = 3
-arity_of Element = 2
-arity_of IsMapKey = 2
-arity_of MapGet = 2
-arity_of Self = 0
-arity_of Error2 = 2
-arity_of _ = 1
-
--- the functions whose answer may be a number that takes room of its own; the machine collects for them
+-- whether the machine collects for it
 abbrev pub is_collecting : Bif → Bool
-is_collecting Add = true
-is_collecting Subtract = true
-is_collecting Multiply = true
-is_collecting Plus = true
-is_collecting Negate = true
-is_collecting Div = true
-is_collecting Rem = true
-is_collecting Band = true
-is_collecting Bor = true
-is_collecting Bxor = true
-is_collecting Bnot = true
-is_collecting Bsl = true
-is_collecting Bsr = true
-is_collecting Abs = true
-is_collecting Round = true
-is_collecting Trunc = true
-is_collecting Ceil = true
-is_collecting Floor = true
-is_collecting Size = true
-is_collecting ByteSize = true
-is_collecting BitSize = true
-is_collecting Length = true
-is_collecting MapSize = true
-is_collecting _ = false
+is_collecting b = elim (group_of b) [ plain ↦ false | collecting ↦ true | raising ↦ false ]
+
+-- whether a function of this name and arity is listed that always raises
+abbrev pub raises_always : Name → ℕ → Bool
+raises_always f n = elim (lookup f n) [ None ↦ false | Some b ↦ not (is_guard b) ]

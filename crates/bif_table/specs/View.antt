@@ -1,9 +1,16 @@
--- The listed function that a `Bif` of the program stands for, and its row.
-use Rattle.std.specs.Prelude.{ℕ, List, codes}
+-- The listed functions and the tests of terms that the program's stand for.
 use Rattle.bif_table.specs.declared.table.Bif.{Bif}
 use Rattle.bif_table.specs.declared.table.Bif.TheVariants as V
+use Rattle.bif_table.specs.declared.table.Group.{Group}
+use Rattle.bif_table.specs.declared.table.Group.TheVariants as G
+use Rattle.bif_table.specs.declared.term_test.TypeTest.{TypeTest}
+use Rattle.bif_table.specs.declared.term_test.TypeTest.TheVariants as TT
+use Rattle.bif_table.specs.declared.term_test.Comparison.{Comparison}
+use Rattle.bif_table.specs.declared.term_test.Comparison.TheVariants as CT
 use Rattle.bif_table.specs.Builtins as Plain
+use Rattle.bif_table.specs.TermTests as Tests
 
+-- the function that a `Bif` stands for
 abbrev pub bif_view : Bif → Plain.Bif
 bif_view V.Add = Plain.Add
 bif_view V.Subtract = Plain.Subtract
@@ -69,70 +76,36 @@ bif_view V.Error2 = Plain.Error2
 bif_view V.Exit1 = Plain.Exit1
 bif_view V.Throw1 = Plain.Throw1
 
-abbrev pub name_of : Bif → List ℕ
-name_of V.Add = codes "+"
-name_of V.Subtract = codes "-"
-name_of V.Multiply = codes "*"
-name_of V.Plus = codes "+"
-name_of V.Negate = codes "-"
-name_of V.Div = codes "div"
-name_of V.Rem = codes "rem"
-name_of V.Band = codes "band"
-name_of V.Bor = codes "bor"
-name_of V.Bxor = codes "bxor"
-name_of V.Bnot = codes "bnot"
-name_of V.Bsl = codes "bsl"
-name_of V.Bsr = codes "bsr"
-name_of V.Abs = codes "abs"
-name_of V.Round = codes "round"
-name_of V.Trunc = codes "trunc"
-name_of V.Ceil = codes "ceil"
-name_of V.Floor = codes "floor"
-name_of V.Equals = codes "=="
-name_of V.Exactly = codes "=:="
-name_of V.Differs = codes "/="
-name_of V.ExactlyNot = codes "=/="
-name_of V.Below = codes "<"
-name_of V.AtMost = codes "=<"
-name_of V.Above = codes ">"
-name_of V.AtLeast = codes ">="
-name_of V.And = codes "and"
-name_of V.Or = codes "or"
-name_of V.Xor = codes "xor"
-name_of V.Not = codes "not"
-name_of V.IsAtom = codes "is_atom"
-name_of V.IsBinary = codes "is_binary"
-name_of V.IsBitstring = codes "is_bitstring"
-name_of V.IsBoolean = codes "is_boolean"
-name_of V.IsFloat = codes "is_float"
-name_of V.IsFunction = codes "is_function"
-name_of V.IsInteger = codes "is_integer"
-name_of V.IsList = codes "is_list"
-name_of V.IsMap = codes "is_map"
-name_of V.IsNumber = codes "is_number"
-name_of V.IsPid = codes "is_pid"
-name_of V.IsPort = codes "is_port"
-name_of V.IsReference = codes "is_reference"
-name_of V.IsTuple = codes "is_tuple"
-name_of V.IsFunction2 = codes "is_function"
-name_of V.IsRecord2 = codes "is_record"
-name_of V.IsRecord3 = codes "is_record"
-name_of V.Element = codes "element"
-name_of V.TupleSize = codes "tuple_size"
-name_of V.Size = codes "size"
-name_of V.ByteSize = codes "byte_size"
-name_of V.BitSize = codes "bit_size"
-name_of V.Length = codes "length"
-name_of V.Hd = codes "hd"
-name_of V.Tl = codes "tl"
-name_of V.MapSize = codes "map_size"
-name_of V.IsMapKey = codes "is_map_key"
-name_of V.MapGet = codes "map_get"
-name_of V.OwnPid = codes "self"
-name_of V.Error1 = codes "error"
-name_of V.Error2 = codes "error"
-name_of V.Exit1 = codes "exit"
-name_of V.Throw1 = codes "throw"
+-- and its group
+abbrev pub group_view : Group → Plain.Group
+group_view G.Plain = Plain.plain
+group_view G.Collecting = Plain.collecting
+group_view G.Raising = Plain.raising
 
-abbrev pub row_view : Bif → Plain.Row
-row_view b = record { name = name_of b; arity = Plain.arity_of (bif_view b); bif = bif_view b }
+-- the test of one term that a `TypeTest` of the program stands for
+abbrev pub type_view : TypeTest → Tests.TypeTest
+type_view TT.IsAtom = Tests.is_atom
+type_view TT.IsInteger = Tests.is_integer
+type_view TT.IsNumber = Tests.is_number
+type_view TT.IsList = Tests.is_list
+type_view TT.IsNonemptyList = Tests.is_nonempty_list
+type_view TT.IsNil = Tests.is_nil
+type_view TT.IsTuple = Tests.is_tuple
+type_view TT.IsBinary = Tests.is_binary
+type_view TT.IsBitstr = Tests.is_bitstr
+type_view TT.IsBoolean = Tests.is_boolean
+type_view TT.IsFunction = Tests.is_function
+type_view TT.IsMap = Tests.is_map
+type_view TT.IsPid = Tests.is_pid
+type_view TT.IsPort = Tests.is_port
+type_view TT.IsReference = Tests.is_reference
+
+-- and the test of two that a `Comparison` does
+abbrev pub comparison_view : Comparison → Tests.Comparison
+comparison_view CT.IsEqExact = Tests.is_eq_exact
+comparison_view CT.IsNeExact = Tests.is_ne_exact
+comparison_view CT.IsEq = Tests.is_eq
+comparison_view CT.IsNe = Tests.is_ne
+comparison_view CT.IsLt = Tests.is_lt
+comparison_view CT.IsGe = Tests.is_ge
+comparison_view CT.IsFunction2 = Tests.is_function2

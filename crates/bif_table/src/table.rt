@@ -1,7 +1,7 @@
 ghost use Rattle.std.specs.Prelude.{◌≡◌, ◌↔◌, IsTrue, map, chars};
 ghost use Rattle.std.specs.Option.{option_map};
 ghost use Rattle.bif_table.specs.Builtins as Plain;
-ghost use Rattle.bif_table.specs.View.{bif_view, row_view, name_of};
+ghost use Rattle.bif_table.specs.View.{bif_view, group_view};
 
 use erl_base::{FunKey, Name};
 
@@ -73,8 +73,27 @@ pub enum Bif {
     Throw1,
 }
 
-/// The functions that a guard may call, in the order of the table.
-const GUARDS: [Bif; 59] = [
+/// Who calls a function, and how.
+#[derive(Clone, Copy)]
+enum Group {
+    /// Guards and bodies.
+    Plain,
+    /// Guards and bodies; the machine collects first, since its number may take room.
+    Collecting,
+    /// Bodies alone: it always raises.
+    Raising,
+}
+
+/// What the table says of a function.
+#[derive(Clone, Copy)]
+struct Row {
+    name: &'static str,
+    arity: u32,
+    group: Group,
+}
+
+/// All functions, in the order of the table.
+const ALL: [Bif; 63] = [
     Bif::Add,
     Bif::Subtract,
     Bif::Multiply,
@@ -134,315 +153,142 @@ const GUARDS: [Bif; 59] = [
     Bif::IsMapKey,
     Bif::MapGet,
     Bif::OwnPid,
+    Bif::Error1,
+    Bif::Error2,
+    Bif::Exit1,
+    Bif::Throw1,
 ];
-
-/// The functions that always raise.
-const RAISING: [Bif; 4] = [Bif::Error1, Bif::Error2, Bif::Exit1, Bif::Throw1];
 
 /// The listed function of this name and arity in the module erlang.
 pub fn lookup(key: &FunKey) -> Option<Bif>
     ensures { option_map bif_view result ≡ Plain.lookup key.now.name key.now.arity }
 {
-    match find(&GUARDS, key) {
-        Some(bif) => Some(bif),
-        None => find(&RAISING, key),
-    }
+    find(&ALL, key)
 }
 
 /// Whether a guard may call it; the others always raise.
 pub fn is_guard(bif: Bif) -> bool
     ensures { result ≡ Plain.is_guard (bif_view bif) }
 {
-    match bif {
-        Bif::Add => true,
-        Bif::Subtract => true,
-        Bif::Multiply => true,
-        Bif::Plus => true,
-        Bif::Negate => true,
-        Bif::Div => true,
-        Bif::Rem => true,
-        Bif::Band => true,
-        Bif::Bor => true,
-        Bif::Bxor => true,
-        Bif::Bnot => true,
-        Bif::Bsl => true,
-        Bif::Bsr => true,
-        Bif::Abs => true,
-        Bif::Round => true,
-        Bif::Trunc => true,
-        Bif::Ceil => true,
-        Bif::Floor => true,
-        Bif::Equals => true,
-        Bif::Exactly => true,
-        Bif::Differs => true,
-        Bif::ExactlyNot => true,
-        Bif::Below => true,
-        Bif::AtMost => true,
-        Bif::Above => true,
-        Bif::AtLeast => true,
-        Bif::And => true,
-        Bif::Or => true,
-        Bif::Xor => true,
-        Bif::Not => true,
-        Bif::IsAtom => true,
-        Bif::IsBinary => true,
-        Bif::IsBitstring => true,
-        Bif::IsBoolean => true,
-        Bif::IsFloat => true,
-        Bif::IsFunction => true,
-        Bif::IsInteger => true,
-        Bif::IsList => true,
-        Bif::IsMap => true,
-        Bif::IsNumber => true,
-        Bif::IsPid => true,
-        Bif::IsPort => true,
-        Bif::IsReference => true,
-        Bif::IsTuple => true,
-        Bif::IsFunction2 => true,
-        Bif::IsRecord2 => true,
-        Bif::IsRecord3 => true,
-        Bif::Element => true,
-        Bif::TupleSize => true,
-        Bif::Size => true,
-        Bif::ByteSize => true,
-        Bif::BitSize => true,
-        Bif::Length => true,
-        Bif::Hd => true,
-        Bif::Tl => true,
-        Bif::MapSize => true,
-        Bif::IsMapKey => true,
-        Bif::MapGet => true,
-        Bif::OwnPid => true,
-        Bif::Error1 => false,
-        Bif::Error2 => false,
-        Bif::Exit1 => false,
-        Bif::Throw1 => false,
+    match bif.row().group {
+        Group::Plain | Group::Collecting => true,
+        Group::Raising => false,
     }
 }
 
 impl Bif {
     pub fn name(self) -> &'static str
-        ensures { result.now ≡ name_of self }
+        ensures { result.now ≡ Plain.bif_name (bif_view self) }
     {
-        match self {
-            Bif::Add => "+",
-            Bif::Subtract => "-",
-            Bif::Multiply => "*",
-            Bif::Plus => "+",
-            Bif::Negate => "-",
-            Bif::Div => "div",
-            Bif::Rem => "rem",
-            Bif::Band => "band",
-            Bif::Bor => "bor",
-            Bif::Bxor => "bxor",
-            Bif::Bnot => "bnot",
-            Bif::Bsl => "bsl",
-            Bif::Bsr => "bsr",
-            Bif::Abs => "abs",
-            Bif::Round => "round",
-            Bif::Trunc => "trunc",
-            Bif::Ceil => "ceil",
-            Bif::Floor => "floor",
-            Bif::Equals => "==",
-            Bif::Exactly => "=:=",
-            Bif::Differs => "/=",
-            Bif::ExactlyNot => "=/=",
-            Bif::Below => "<",
-            Bif::AtMost => "=<",
-            Bif::Above => ">",
-            Bif::AtLeast => ">=",
-            Bif::And => "and",
-            Bif::Or => "or",
-            Bif::Xor => "xor",
-            Bif::Not => "not",
-            Bif::IsAtom => "is_atom",
-            Bif::IsBinary => "is_binary",
-            Bif::IsBitstring => "is_bitstring",
-            Bif::IsBoolean => "is_boolean",
-            Bif::IsFloat => "is_float",
-            Bif::IsFunction => "is_function",
-            Bif::IsInteger => "is_integer",
-            Bif::IsList => "is_list",
-            Bif::IsMap => "is_map",
-            Bif::IsNumber => "is_number",
-            Bif::IsPid => "is_pid",
-            Bif::IsPort => "is_port",
-            Bif::IsReference => "is_reference",
-            Bif::IsTuple => "is_tuple",
-            Bif::IsFunction2 => "is_function",
-            Bif::IsRecord2 => "is_record",
-            Bif::IsRecord3 => "is_record",
-            Bif::Element => "element",
-            Bif::TupleSize => "tuple_size",
-            Bif::Size => "size",
-            Bif::ByteSize => "byte_size",
-            Bif::BitSize => "bit_size",
-            Bif::Length => "length",
-            Bif::Hd => "hd",
-            Bif::Tl => "tl",
-            Bif::MapSize => "map_size",
-            Bif::IsMapKey => "is_map_key",
-            Bif::MapGet => "map_get",
-            Bif::OwnPid => "self",
-            Bif::Error1 => "error",
-            Bif::Error2 => "error",
-            Bif::Exit1 => "exit",
-            Bif::Throw1 => "throw",
-        }
+        self.row().name
     }
 
     pub fn arity(self) -> u32
         ensures { result ≡ Plain.arity_of (bif_view self) }
     {
-        match self {
-            Bif::Add => 2,
-            Bif::Subtract => 2,
-            Bif::Multiply => 2,
-            Bif::Plus => 1,
-            Bif::Negate => 1,
-            Bif::Div => 2,
-            Bif::Rem => 2,
-            Bif::Band => 2,
-            Bif::Bor => 2,
-            Bif::Bxor => 2,
-            Bif::Bnot => 1,
-            Bif::Bsl => 2,
-            Bif::Bsr => 2,
-            Bif::Abs => 1,
-            Bif::Round => 1,
-            Bif::Trunc => 1,
-            Bif::Ceil => 1,
-            Bif::Floor => 1,
-            Bif::Equals => 2,
-            Bif::Exactly => 2,
-            Bif::Differs => 2,
-            Bif::ExactlyNot => 2,
-            Bif::Below => 2,
-            Bif::AtMost => 2,
-            Bif::Above => 2,
-            Bif::AtLeast => 2,
-            Bif::And => 2,
-            Bif::Or => 2,
-            Bif::Xor => 2,
-            Bif::Not => 1,
-            Bif::IsAtom => 1,
-            Bif::IsBinary => 1,
-            Bif::IsBitstring => 1,
-            Bif::IsBoolean => 1,
-            Bif::IsFloat => 1,
-            Bif::IsFunction => 1,
-            Bif::IsInteger => 1,
-            Bif::IsList => 1,
-            Bif::IsMap => 1,
-            Bif::IsNumber => 1,
-            Bif::IsPid => 1,
-            Bif::IsPort => 1,
-            Bif::IsReference => 1,
-            Bif::IsTuple => 1,
-            Bif::IsFunction2 => 2,
-            Bif::IsRecord2 => 2,
-            Bif::IsRecord3 => 3,
-            Bif::Element => 2,
-            Bif::TupleSize => 1,
-            Bif::Size => 1,
-            Bif::ByteSize => 1,
-            Bif::BitSize => 1,
-            Bif::Length => 1,
-            Bif::Hd => 1,
-            Bif::Tl => 1,
-            Bif::MapSize => 1,
-            Bif::IsMapKey => 2,
-            Bif::MapGet => 2,
-            Bif::OwnPid => 0,
-            Bif::Error1 => 1,
-            Bif::Error2 => 2,
-            Bif::Exit1 => 1,
-            Bif::Throw1 => 1,
-        }
+        self.row().arity
     }
 
     /// Whether the machine collects for it, since its number may take room.
     pub fn is_collecting(self) -> bool
         ensures { result ≡ Plain.is_collecting (bif_view self) }
     {
-        match self {
-            Bif::Add => true,
-            Bif::Subtract => true,
-            Bif::Multiply => true,
-            Bif::Plus => true,
-            Bif::Negate => true,
-            Bif::Div => true,
-            Bif::Rem => true,
-            Bif::Band => true,
-            Bif::Bor => true,
-            Bif::Bxor => true,
-            Bif::Bnot => true,
-            Bif::Bsl => true,
-            Bif::Bsr => true,
-            Bif::Abs => true,
-            Bif::Round => true,
-            Bif::Trunc => true,
-            Bif::Ceil => true,
-            Bif::Floor => true,
-            Bif::Equals => false,
-            Bif::Exactly => false,
-            Bif::Differs => false,
-            Bif::ExactlyNot => false,
-            Bif::Below => false,
-            Bif::AtMost => false,
-            Bif::Above => false,
-            Bif::AtLeast => false,
-            Bif::And => false,
-            Bif::Or => false,
-            Bif::Xor => false,
-            Bif::Not => false,
-            Bif::IsAtom => false,
-            Bif::IsBinary => false,
-            Bif::IsBitstring => false,
-            Bif::IsBoolean => false,
-            Bif::IsFloat => false,
-            Bif::IsFunction => false,
-            Bif::IsInteger => false,
-            Bif::IsList => false,
-            Bif::IsMap => false,
-            Bif::IsNumber => false,
-            Bif::IsPid => false,
-            Bif::IsPort => false,
-            Bif::IsReference => false,
-            Bif::IsTuple => false,
-            Bif::IsFunction2 => false,
-            Bif::IsRecord2 => false,
-            Bif::IsRecord3 => false,
-            Bif::Element => false,
-            Bif::TupleSize => false,
-            Bif::Size => true,
-            Bif::ByteSize => true,
-            Bif::BitSize => true,
-            Bif::Length => true,
-            Bif::Hd => false,
-            Bif::Tl => false,
-            Bif::MapSize => true,
-            Bif::IsMapKey => false,
-            Bif::MapGet => false,
-            Bif::OwnPid => false,
-            Bif::Error1 => false,
-            Bif::Error2 => false,
-            Bif::Exit1 => false,
-            Bif::Throw1 => false,
+        match self.row().group {
+            Group::Collecting => true,
+            Group::Plain | Group::Raising => false,
         }
     }
-}
 
-impl Bif {
+    // The table.
+    fn row(self) -> Row
+        ensures name { result.name.now ≡ Plain.bif_name (bif_view self) }
+        ensures arity { result.arity ≡ Plain.arity_of (bif_view self) }
+        ensures group { group_view result.group ≡ Plain.group_of (bif_view self) }
+    {
+        match self {
+            Bif::Add => make_row("+", 2, Group::Collecting),
+            Bif::Subtract => make_row("-", 2, Group::Collecting),
+            Bif::Multiply => make_row("*", 2, Group::Collecting),
+            Bif::Plus => make_row("+", 1, Group::Collecting),
+            Bif::Negate => make_row("-", 1, Group::Collecting),
+            Bif::Div => make_row("div", 2, Group::Collecting),
+            Bif::Rem => make_row("rem", 2, Group::Collecting),
+            Bif::Band => make_row("band", 2, Group::Collecting),
+            Bif::Bor => make_row("bor", 2, Group::Collecting),
+            Bif::Bxor => make_row("bxor", 2, Group::Collecting),
+            Bif::Bnot => make_row("bnot", 1, Group::Collecting),
+            Bif::Bsl => make_row("bsl", 2, Group::Collecting),
+            Bif::Bsr => make_row("bsr", 2, Group::Collecting),
+            Bif::Abs => make_row("abs", 1, Group::Collecting),
+            Bif::Round => make_row("round", 1, Group::Collecting),
+            Bif::Trunc => make_row("trunc", 1, Group::Collecting),
+            Bif::Ceil => make_row("ceil", 1, Group::Collecting),
+            Bif::Floor => make_row("floor", 1, Group::Collecting),
+            Bif::Equals => make_row("==", 2, Group::Plain),
+            Bif::Exactly => make_row("=:=", 2, Group::Plain),
+            Bif::Differs => make_row("/=", 2, Group::Plain),
+            Bif::ExactlyNot => make_row("=/=", 2, Group::Plain),
+            Bif::Below => make_row("<", 2, Group::Plain),
+            Bif::AtMost => make_row("=<", 2, Group::Plain),
+            Bif::Above => make_row(">", 2, Group::Plain),
+            Bif::AtLeast => make_row(">=", 2, Group::Plain),
+            Bif::And => make_row("and", 2, Group::Plain),
+            Bif::Or => make_row("or", 2, Group::Plain),
+            Bif::Xor => make_row("xor", 2, Group::Plain),
+            Bif::Not => make_row("not", 1, Group::Plain),
+            Bif::IsAtom => make_row("is_atom", 1, Group::Plain),
+            Bif::IsBinary => make_row("is_binary", 1, Group::Plain),
+            Bif::IsBitstring => make_row("is_bitstring", 1, Group::Plain),
+            Bif::IsBoolean => make_row("is_boolean", 1, Group::Plain),
+            Bif::IsFloat => make_row("is_float", 1, Group::Plain),
+            Bif::IsFunction => make_row("is_function", 1, Group::Plain),
+            Bif::IsInteger => make_row("is_integer", 1, Group::Plain),
+            Bif::IsList => make_row("is_list", 1, Group::Plain),
+            Bif::IsMap => make_row("is_map", 1, Group::Plain),
+            Bif::IsNumber => make_row("is_number", 1, Group::Plain),
+            Bif::IsPid => make_row("is_pid", 1, Group::Plain),
+            Bif::IsPort => make_row("is_port", 1, Group::Plain),
+            Bif::IsReference => make_row("is_reference", 1, Group::Plain),
+            Bif::IsTuple => make_row("is_tuple", 1, Group::Plain),
+            Bif::IsFunction2 => make_row("is_function", 2, Group::Plain),
+            Bif::IsRecord2 => make_row("is_record", 2, Group::Plain),
+            Bif::IsRecord3 => make_row("is_record", 3, Group::Plain),
+            Bif::Element => make_row("element", 2, Group::Plain),
+            Bif::TupleSize => make_row("tuple_size", 1, Group::Plain),
+            Bif::Size => make_row("size", 1, Group::Collecting),
+            Bif::ByteSize => make_row("byte_size", 1, Group::Collecting),
+            Bif::BitSize => make_row("bit_size", 1, Group::Collecting),
+            Bif::Length => make_row("length", 1, Group::Collecting),
+            Bif::Hd => make_row("hd", 1, Group::Plain),
+            Bif::Tl => make_row("tl", 1, Group::Plain),
+            Bif::MapSize => make_row("map_size", 1, Group::Collecting),
+            Bif::IsMapKey => make_row("is_map_key", 2, Group::Plain),
+            Bif::MapGet => make_row("map_get", 2, Group::Plain),
+            Bif::OwnPid => make_row("self", 0, Group::Plain),
+            Bif::Error1 => make_row("error", 1, Group::Raising),
+            Bif::Error2 => make_row("error", 2, Group::Raising),
+            Bif::Exit1 => make_row("exit", 1, Group::Raising),
+            Bif::Throw1 => make_row("throw", 1, Group::Raising),
+        }
+    }
+
     fn is_named(self, key: &FunKey) -> bool
-        ensures { result ≡ Plain.is_row (row_view self) key.now.name key.now.arity }
+        ensures { result ≡ Plain.is_row (Plain.row_of_bif (bif_view self)) key.now.name key.now.arity }
     {
         self.arity() == key.arity && is_text(&key.name, self.name())
     }
 }
 
+fn make_row(name: &'static str, arity: u32, group: Group) -> Row
+    ensures name { result.name.now ≡ name.now }
+    ensures arity { result.arity ≡ arity }
+    ensures group { result.group ≡ group }
+{
+    Row { name, arity, group }
+}
+
 fn find(bifs: &[Bif], key: &FunKey) -> Option<Bif>
-    ensures { option_map bif_view result ≡ Plain.look_up (map row_view bifs.now) key.now.name key.now.arity }
+    ensures { option_map bif_view result ≡ Plain.look_up (map bif_view bifs.now) key.now.name key.now.arity }
 {
     for bif in bifs {
         if bif.is_named(key) {

@@ -5,3 +5,5 @@ pub mod Sites
 pub mod Walks
 pub mod View
 pub mod SiteLaws
+pub mod Nodes
+pub mod SourceTree

@@ -11,7 +11,7 @@ mod module;
 mod tests;
 mod tree;
 
-pub use laws::sites_are_counted;
+pub use laws::{parts_have_no_more_nodes, sites_are_counted};
 pub use module::{FunName, FunNames, Module, Site, SiteList};
 pub use tree::{
     Binder, Binders, Clause, Clauses, Def, Defs, Expr, ExprForm, Exprs, KeyPattern, KeyPatterns,

@@ -8,7 +8,8 @@ use Rattle.erl_term.specs.Terms.{Values, value_at}
 use Rattle.erl_term.specs.Segments.{taken_size, segment_value}
 use Rattle.core_form.specs.Core.{Pattern, any, alias, known, list_like, tuple_like, map_like, bits_like, Patterns, no_pattern, and_pattern, KeyPatterns, no_key, and_key, key_pattern, SegPatterns, no_seg, and_seg, seg_pattern}
 use Rattle.core_meaning.specs.SegmentShape.{shape_of}
-use Rattle.core_meaning.specs.PatternMatch.{key_value, known_name, SegsMatch, none_left, seg_variable, seg_literal, Matches, variable, aliased, equal, cells, elements, pairs, bits, CellsMatch, the_rest, a_cell, AllMatch, no_term, a_term, KeysMatch, no_more, a_key, both, also, at_key, if_some, match_segment, match_segs, matches, match_items, match_all, match_keys}
+use Rattle.core_meaning.specs.SegmentMatch.{if_there, both, also, match_segs}
+use Rattle.core_meaning.specs.PatternMatch.{key_value, known_name, SegsMatch, none_left, seg_variable, seg_literal, Matches, variable, aliased, equal, cells, elements, pairs, bits, CellsMatch, the_rest, a_cell, AllMatch, no_term, a_term, KeysMatch, no_more, a_key, at_key, match_segment, matches, match_items, match_all, match_keys, segments_in}
 
 -- Options.
 
@@ -29,7 +30,7 @@ also_part : (t : Term) (o : Option Values) (ws : Values) → also t o ≡ Some w
 also_part t None ws e = absurd cc
 also_part t (Some vs) ws e = (vs, refl, some_one e)
 
-some_part : {A : Type 0} (o : Option A) (f : A → Option Values) (ws : Values) → if_some o f ≡ Some ws → (a : A) × (o ≡ Some a) × (f a ≡ Some ws)
+some_part : {A : Type 0} (o : Option A) (f : A → Option Values) (ws : Values) → if_there o f None ≡ Some ws → (a : A) × (o ≡ Some a) × (f a ≡ Some ws)
 some_part None f ws e = absurd cc
 some_part (Some a) f ws e = (a, refl, e)
 
@@ -43,16 +44,16 @@ test_part false ws e = absurd cc
 
 -- From the relation to the function.
 
-segs_give : {env : Name → Option Term} {ss : SegPatterns} {bs : List Bool} {ws : Values} → SegsMatch env ss bs ws → match_segs ss env bs ≡ Some ws
+segs_give : {env : Name → Option Term} {ss : SegPatterns} {bs : List Bool} {ws : Values} → SegsMatch env ss bs ws → match_segs (segments_in ss) env bs ≡ Some ws
 segs_give none_left = refl
 segs_give {env} (seg_variable {p} {r} {x} {size} {unit} {flags} {kind} {ss} {bs} {ws} n e h) =
     let s = shape_of size unit kind flags in
     let t = segment_value s (take n bs) in
-    ap (λ o. if_some o (λ k. both (match_segment (any r x) (segment_value s (take k bs))) (match_segs ss (known_name (any r x) (segment_value s (take k bs)) env) (drop k bs)))) e
+    ap (λ o. if_there o (λ k. both (match_segment (any r x) (segment_value s (take k bs))) (match_segs (segments_in ss) (known_name (any r x) (segment_value s (take k bs)) env) (drop k bs))) None) e
     ∙ both_some (Some (t ∷ [])) _ (t ∷ []) ws refl (segs_give h)
 segs_give {env} (seg_literal {p} {r} {u} {size} {unit} {flags} {kind} {ss} {bs} {ws} n e t h) =
     let s = shape_of size unit kind flags in
-    ap (λ o. if_some o (λ k. both (match_segment (known r u) (segment_value s (take k bs))) (match_segs ss env (drop k bs)))) e
+    ap (λ o. if_there o (λ k. both (match_segment (known r u) (segment_value s (take k bs))) (match_segs (segments_in ss) env (drop k bs))) None) e
     ∙ both_some _ _ [] ws (ap (λ b. cond b (Some []) None) t) (segs_give h)
 
 mutual
@@ -76,7 +77,7 @@ mutual
   keys_give : {env : Name → Option Term} {ks : KeyPatterns} {ps : Pairs} {ws : Values} → KeysMatch env ks ps ws → match_keys env ks ps ≡ Some ws
   keys_give no_more = refl
   keys_give {env} (a_key {e} {q} {ks} {ps} {us} {ws} k t a b h i) =
-      both_some _ _ us ws (ap (λ o. if_some (at_key ps o) (λ u. matches env q u)) a ∙ ap (λ o. if_some o (λ u. matches env q u)) b ∙ give_matches h) (keys_give i)
+      both_some _ _ us ws (ap (λ o. if_there (at_key ps o) (λ u. matches env q u) None) a ∙ ap (λ o. if_there o (λ u. matches env q u) None) b ∙ give_matches h) (keys_give i)
 
 -- From the function to the relation.
 
@@ -84,21 +85,21 @@ both_rest : (us : Values) (b : Option Values) (ws : Values) → both (Some us) b
 both_rest us None ws e = absurd cc
 both_rest us (Some vs) ws e = (vs, refl, some_one e)
 
-from_segs : (ss : SegPatterns) (env : Name → Option Term) (bs : List Bool) (ws : Values) → match_segs ss env bs ≡ Some ws → SegsMatch env ss bs ws
+from_segs : (ss : SegPatterns) (env : Name → Option Term) (bs : List Bool) (ws : Values) → match_segs (segments_in ss) env bs ≡ Some ws → SegsMatch env ss bs ws
 from_segs no_seg env [] ws e = subst (λ v. SegsMatch env no_seg [] v) (some_one e) none_left
 from_segs no_seg env (b ∷ bs) ws e = absurd cc
 from_segs (and_seg (seg_pattern p (any r x) size unit kind flags) ss) env bs ws e =
     let s = shape_of size unit kind flags in
-    let f : ℕ → Option Values = λ n. both (Some (segment_value s (take n bs) ∷ [])) (match_segs ss (known_name (any r x) (segment_value s (take n bs)) env) (drop n bs)) in
+    let f : ℕ → Option Values = λ n. both (Some (segment_value s (take n bs) ∷ [])) (match_segs (segments_in ss) (known_name (any r x) (segment_value s (take n bs)) env) (drop n bs)) in
     let (n, a, g) = some_part (taken_size s (key_value env size) (length bs)) f ws e in
-    let (vs, b, c) = both_rest (segment_value s (take n bs) ∷ []) (match_segs ss (known_name (any r x) (segment_value s (take n bs)) env) (drop n bs)) ws g in
+    let (vs, b, c) = both_rest (segment_value s (take n bs) ∷ []) (match_segs (segments_in ss) (known_name (any r x) (segment_value s (take n bs)) env) (drop n bs)) ws g in
     subst (λ v. SegsMatch env (and_seg (seg_pattern p (any r x) size unit kind flags) ss) bs v) c
     (seg_variable n a (from_segs ss (known_name (any r x) (segment_value s (take n bs)) env) (drop n bs) vs b))
 from_segs (and_seg (seg_pattern p (known r u) size unit kind flags) ss) env bs ws e =
     let s = shape_of size unit kind flags in
-    let f : ℕ → Option Values = λ n. both (cond (same_term u (segment_value s (take n bs))) (Some []) None) (match_segs ss env (drop n bs)) in
+    let f : ℕ → Option Values = λ n. both (cond (same_term u (segment_value s (take n bs))) (Some []) None) (match_segs (segments_in ss) env (drop n bs)) in
     let (n, a, g) = some_part (taken_size s (key_value env size) (length bs)) f ws e in
-    let (us, vs, t, b, c) = both_parts (cond (same_term u (segment_value s (take n bs))) (Some []) None) (match_segs ss env (drop n bs)) ws g in
+    let (us, vs, t, b, c) = both_parts (cond (same_term u (segment_value s (take n bs))) (Some []) None) (match_segs (segments_in ss) env (drop n bs)) ws g in
     let (y, z) = test_part (same_term u (segment_value s (take n bs))) us t in
     subst (λ v. SegsMatch env (and_seg (seg_pattern p (known r u) size unit kind flags) ss) bs v) (ap (λ v. v ++ vs) z ∙ c)
     (seg_literal n a y (from_segs ss env (drop n bs) vs b))
@@ -144,7 +145,7 @@ module _ (env : Name → Option Term) where
     from_keys : (ks : KeyPatterns) (ps : Pairs) (ws : Values) → match_keys env ks ps ≡ Some ws → KeysMatch env ks ps ws
     from_keys no_key ps ws e = subst (λ v. KeysMatch env no_key ps v) (some_one e) no_more
     from_keys (and_key (key_pattern k q) ks) ps ws e =
-        let (us, vs, a, b, c) = both_parts (if_some (at_key ps (key_value env k)) (λ t. matches env q t)) (match_keys env ks ps) ws e in
+        let (us, vs, a, b, c) = both_parts (if_there (at_key ps (key_value env k)) (λ t. matches env q t) None) (match_keys env ks ps) ws e in
         let (t, f, g) = some_part (at_key ps (key_value env k)) (λ t. matches env q t) us a in
         let (key, i, j) = key_part ps (key_value env k) t f in
         subst (λ v. KeysMatch env (and_key (key_pattern k q) ks) ps v) c (a_key key t i j (from_matches q t us g) (from_keys ks ps vs b))

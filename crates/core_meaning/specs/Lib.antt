@@ -1,4 +1,5 @@
 pub mod SegmentShape
+pub mod SegmentMatch
 pub mod PatternMatch
 pub mod MarkedReceive
 pub mod PassedOnTail

@@ -1,10 +1,17 @@
--- Words that ask for nothing.
-use Rattle.std.proofs.Common.{◌≡◌, ◌<◌, ◌≤◌, ◌⊎◌, List, [], ◌∷◌, length, map, None, refl, string_bytes, String, Global, arith, inl, inr}
-use Rattle.erlc_cli.specs.FilesKept.{action_of}
+-- The words that are taken, and the action that they name.
+use Rattle.std.proofs.Common.{◌≡◌, ℕ, List, [], ◌∷◌, ◌++◌, take, drop, None, Some, option_map, String, Global, refl, slice_get}
+use Rattle.erlc_cli.specs.Actions.{named, taken}
+use Rattle.erlc_cli.specs.ActionView.{texts}
 
-pub none_unless_three : (ws : List (String Global)) → (length ws < 3) ⊎ (4 ≤ length ws) → action_of (map string_bytes ws) ≡ None
-none_unless_three [] h = refl
-none_unless_three (a ∷ []) h = refl
-none_unless_three (a ∷ b ∷ []) h = refl
-none_unless_three (a ∷ b ∷ c ∷ []) h = absurd (elim h [ inl x ↦ omega (arith, x) | inr x ↦ omega (arith, x) ])
-none_unless_three (a ∷ b ∷ c ∷ d ∷ ws) h = refl
+-- the words before that place are taken as they are
+abbrev pub SoFar : ℕ → List (String Global) → Type 0
+SoFar at words =
+    taken (texts words) ≡ option_map (λ rest. texts (take at words) ++ rest) (taken (texts (drop at words)))
+
+-- a word behind the third names nothing
+pub fourth_word : (words : List (List ℕ)) (word : List ℕ) → slice_get words 3 ≡ Some word → named words ≡ None
+fourth_word [] word there = refl
+fourth_word (a ∷ []) word there = refl
+fourth_word (a ∷ b ∷ []) word there = refl
+fourth_word (a ∷ b ∷ c ∷ []) word there = cc
+fourth_word (a ∷ b ∷ c ∷ d ∷ rest) word there = refl

@@ -5,7 +5,7 @@ use Rattle.core_form.specs.Core.{Module}
 use Rattle.pass_line.specs.CompileCorrect.{AcceptedText, IsCompiled}
 use Rattle.erlc_cli.specs.declared.status.Status.{Status}
 use Rattle.erlc_cli.specs.declared.status.Status.TheVariants.{Done, ReadFault, WriteFault, NoMemory}
-use Rattle.erlc_cli.specs.FilesKept.{HasText}
+use Rattle.erlc_cli.specs.CompileAnswers.{HasText}
 
 -- done, want of memory, or a fault whose count rose
 abbrev pub IsExcused : Status → Type 0 → Type 0 → Type 0
@@ -19,4 +19,5 @@ pub record Headline (input output : List ℕ) (status : Status) (reads writes : 
   pub done : status ≡ Done → OthersStay output old new
       × ((text : List ℕ) × (asm : List ℕ) × HasText (old input) text × (new output ≡ Some asm) × IsCompiled text asm)
   -- and an accepted text is compiled, but for want of memory and counted faults
-  pub accepted : (text : List ℕ) (m : Module) → HasText (old input) text → AcceptedText text m → IsExcused status reads writes
+  pub accepted : (text : List ℕ) (m : Module) → HasText (old input) text → AcceptedText text m
+      → IsExcused status reads writes

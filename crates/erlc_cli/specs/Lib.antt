@@ -1,4 +1,6 @@
-pub mod Answers
-pub mod FilesKept
-pub mod Notes
+pub mod Actions
+pub mod ActionView
+pub mod CompileAnswers
 pub mod Headline
+pub mod Answers
+pub mod Notes

@@ -1,18 +1,61 @@
-ghost use Rattle.std.specs.Prelude.{◌≡◌, Err, IfOk};
+ghost use Rattle.std.specs.Prelude.{◌≡◌, ◌⊎◌, ◌<◌, ◌≤◌, ℕ, List, None, Err, IfOk, IfSome, length, take, drop};
+ghost use Rattle.std.specs.Option.{IsSomeAnd};
 ghost use Rattle.erl_base.specs.declared.refusal.Refusal.{Refusal};
 ghost use Rattle.core_form.specs.Core.{Module};
 ghost use Rattle.pass_line.specs.CompileCorrect.{AcceptedText, IsCompiled};
-ghost use Rattle.erlc_cli.specs.Answers.{not_built};
+ghost use Rattle.store_io.specs.Causes.{Rose};
+ghost use Rattle.store_io.specs.Files.{Alike};
+ghost use Rattle.erlc_cli.specs.CompileAnswers.{IsCompileAnswer, CompileLeaves, NoRoom, not_built};
+ghost use Rattle.erlc_cli.specs.Headline.{Headline};
 
+use crate::status::Status;
 use asm_text::{encoded, print};
-use erl_base::{Bytes, Fault};
+use erl_base::{Bytes, Fault, Kind, Place, Refusal};
 use pass_line::compile;
 use std::alloc::Global;
+use store_io::{Failed, LoadFault, Store, load_all, store_all};
+
+/// Compiles one file into another.
+pub fn compile_file<S: Store>(alloc: Global, store: &mut S, input: &str, output: &str) -> Status
+    requires { (s : S) → (name text : List ℕ) → (done : ℕ) → done < length text
+        → S.may_append s name (take 4096 (drop done text)) }
+    ensures answers { IsCompileAnswer result }
+    ensures files { Alike (S.told store.old).files (S.told store.new).files (CompileLeaves input.now output.now result) }
+    ensures absent { IfSome (S.told store.old).files (λ f. f input.now ≡ None → result ≡ Status.ReadFault) }
+    ensures read { result ≡ Status.ReadFault → Rose (S.told store.old).read_faults (S.told store.new).read_faults
+        ⊎ IsSomeAnd (S.told store.old).files (λ f. f input.now ≡ None) }
+    ensures write { result ≡ Status.WriteFault → Rose (S.told store.old).write_faults (S.told store.new).write_faults }
+    ensures no_room { IfSome (S.told store.old).rooms (λ r. IfSome (S.told store.old).files
+        (λ f. result ≡ Status.WriteFault → NoRoom input.now output.now f r)) }
+    ensures headline { Alike (S.told store.old).files (S.told store.new).files (Headline input.now output.now result (Rose (S.told store.old).read_faults (S.told store.new).read_faults) (Rose (S.told store.old).write_faults (S.told store.new).write_faults)) }
+{
+    let text = match load_all(alloc, store, input) {
+        Ok(text) => text,
+        Err(LoadFault::Failed) => return Status::ReadFault,
+        Err(LoadFault::TooLarge) => {
+            return Status::Refused(Refusal {
+                kind: Kind::TooLarge,
+                place: Place { line: 0, column: 0 },
+            });
+        }
+        Err(LoadFault::NoMemory) => return Status::NoMemory,
+    };
+    let asm = match compiled(alloc, text.as_slice()) {
+        Ok(asm) => asm,
+        Err(Fault::Refused(refusal)) => return Status::Refused(refusal),
+        Err(Fault::NoMemory) => return Status::NoMemory,
+    };
+    match store_all(store, output, asm.as_slice()) {
+        Ok(()) => Status::Done,
+        Err(Failed) => Status::WriteFault,
+    }
+}
 
 /// The bytes of the assembly text of a module text.
 pub fn compiled(alloc: Global, text: &[u8]) -> Result<Bytes, Fault>
     ensures ok { IfOk result (λ asm. IsCompiled text.now asm) }
-    ensures refused { (r : Refusal) → result ≡ Err (Fault.Refused r) → (r ≡ not_built) × ((m : Module) → AcceptedText text.now m → ⊥) }
+    ensures refused { (r : Refusal) → result ≡ Err (Fault.Refused r) → (r ≡ not_built) × ((m : Module)
+        → AcceptedText text.now m → ⊥) }
 {
     let module = compile(alloc, text)?;
     let printed = print(alloc, &module)?;

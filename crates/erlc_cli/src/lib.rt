@@ -1,15 +1,24 @@
 //! The top call: words in, status out.
 //!
-//! Memory may be refused at any time: a private `compiled` that always refuses it meets its contract, and the tests show
-//! that the call succeeds.
+//! The words are read into an action, the action is done over a store, and its answer goes as a line into notes:
+//!
+//! ```text
+//! compile IN OUT   0, and OUT holds the assembly text of IN
+//! compile IN       2, and the notes end with the line of usage
+//! ```
+//!
+//! An action is a case of `specs/Actions`; what it may answer, reads, leaves and puts out are definitions by cases in
+//! `specs/Answers`, and what they say of one action stands in a file of its own, as `specs/CompileAnswers`. The notes
+//! need no memory, nor does the reading of words.
 #![tactic(auto)]
 
 mod act;
+mod action;
 mod compile;
 mod notes;
 mod status;
 
-pub use act::run;
+pub use act::{run, run_without_words};
 pub use status::Status;
 
 #[cfg(test)]

@@ -1,57 +1,46 @@
 -- When a pattern matches a term, what it binds, and how many sub-binaries the trying may make (Core Erlang 1.0.3,
 -- section 5: pattern matching; binaries as OTP 25; the count is this project's own).
-use Rattle.std.specs.Prelude.{ℕ, ◌+◌, List, [], ◌∷◌, ◌++◌, length, take, drop, Bool, not, ◌&&◌, eqb, Option, Some, None, if◌then◌else◌}
+use Rattle.std.specs.Prelude.{ℕ, ◌+◌, List, [], ◌∷◌, not, ◌&&◌, eqb, Option, Some, None, if◌then◌else◌}
+use Rattle.erl_base.specs.Lists.{among}
 use Rattle.erl_term.specs.Term as T
 use Rattle.erl_term.specs.Term.{Term, Terms, none, more, Pairs}
 use Rattle.erl_term.specs.TermOrder.{same_term, count}
 use Rattle.erl_term.specs.Terms.{value_at}
-use Rattle.erl_term.specs.Segments.{Shape, taken_size, segment_value}
+use Rattle.erl_term.specs.Segments.{Shape}
+use Rattle.core_meaning.specs.SegmentMatch.{if_there, both, also, Segment, match_segs, seg_cuts}
 use Rattle.kernel_form.specs.Kernel.{Pattern, any, bind, known, cons_like, tuple_like, map_like, bits_like, alias, Patterns, no_pattern, and_pattern, key_pattern, KeyPatterns, no_key, and_key, seg, Segs, no_seg, and_seg}
-use Rattle.kernel_meaning.specs.Environment.{Env, with_value, read, among}
+use Rattle.kernel_meaning.specs.Environment.{Env, with_value, read}
 
+-- variables with their terms
 abbrev pub Bindings : Type 0
 Bindings = List (ℕ × Term)
 
+-- binds them from left to right
 abbrev pub with_bindings : Env → Bindings → Env
 with_bindings env [] = env
 with_bindings env (b ∷ bs) = with_bindings (with_value env b.0 b.1) bs
 
--- what is bound by two parts
-abbrev pub both : Option Bindings → Option Bindings → Option Bindings
-both None b = None
-both (Some xs) None = None
-both (Some xs) (Some ys) = Some (xs ++ ys)
-
-abbrev pub also : ℕ → Term → Option Bindings → Option Bindings
-also x t None = None
-also x t (Some xs) = Some ((x, t) ∷ xs)
-
-abbrev pub if_there : {A : Type 0} → Option Term → A → (Term → A) → A
-if_there None a f = a
-if_there (Some t) a f = f t
-
 -- a segment's value is anything, a variable or a literal
-abbrev pub match_segment : Pattern → Term → Option Bindings
-match_segment any t = Some []
-match_segment (bind x) t = Some ((x, t) ∷ [])
-match_segment (known u) t = if same_term u t then Some [] else None
-match_segment _ t = None
+abbrev pub segment_binds : Pattern → Term → Option Bindings
+segment_binds any t = Some []
+segment_binds (bind x) t = Some ((x, t) ∷ [])
+segment_binds (known u) t = if same_term u t then Some [] else None
+segment_binds _ t = None
 
 -- what later sizes of the same binary see
 abbrev pub with_segment : Env → Pattern → Term → Env
 with_segment env (bind x) t = with_value env x t
 with_segment env _ t = env
 
-abbrev pub match_segs : Segs → Env → List Bool → Option Bindings
-match_segs no_seg env [] = Some []
-match_segs no_seg env (b ∷ bs) = None
-match_segs (and_seg (seg q v h) ss) env bs =
-    elim (taken_size h (Some (read env v)) (length bs)) [
-      | None ↦ None
-      | Some n ↦
-          let t = segment_value h (take n bs) in
-          both (match_segment q t) (match_segs ss (with_segment env q t) (drop n bs))
-    ]
+-- the segments of a pattern
+abbrev pub segments_of : Segs → List (Segment Env (ℕ × Term))
+segments_of no_seg = []
+segments_of (and_seg (seg q v h) ss) = record {
+  shape = h;
+  size = λ env. Some (read env v);
+  binds = segment_binds q;
+  shows = λ t env. with_segment env q t;
+} ∷ segments_of ss
 
 -- keys and sizes are read outside the pattern, but for a size that an earlier segment of its binary binds
 module _ (env : Env) where
@@ -63,8 +52,8 @@ module _ (env : Env) where
     matches (cons_like p q) (T.cons x y) = both (matches p x) (matches q y)
     matches (tuple_like ps) (T.tuple ts) = match_all ps ts
     matches (map_like ks) (T.map ps) = match_keys ks ps
-    matches (bits_like ss) (T.bits bs) = match_segs ss env bs
-    matches (alias x q) t = also x t (matches q t)
+    matches (bits_like ss) (T.bits bs) = match_segs (segments_of ss) env bs
+    matches (alias x q) t = also (x, t) (matches q t)
     matches _ t = None
 
     pub match_all : Patterns → Terms → Option Bindings
@@ -75,36 +64,34 @@ module _ (env : Env) where
 
     pub match_keys : KeyPatterns → Pairs → Option Bindings
     match_keys no_key ps = Some []
-    match_keys (and_key (key_pattern v q) ks) ps = both (if_there (value_at ps (read env v)) None (λ t. matches q t)) (match_keys ks ps)
+    match_keys (and_key (key_pattern v q) ks) ps =
+        both (if_there (value_at ps (read env v)) (λ t. matches q t) None) (match_keys ks ps)
 
 -- A segment of bits that is bound to a variable is made as a sub-binary, unless the variable is handed on.
 
+-- of a pattern for a segment of this shape, where the parts of these variables are handed on
 abbrev pub made : List ℕ → Shape → Pattern → ℕ
 made hs h (bind x) = if h.is_binary && not (among x hs) then 1 else 0
 made hs h _ = 0
 
-abbrev pub pattern_count : Patterns → ℕ
-pattern_count no_pattern = 0
-pattern_count (and_pattern q qs) = 1 + pattern_count qs
+-- how many patterns there are
+abbrev pub patterns_in : Patterns → ℕ
+patterns_in no_pattern = 0
+patterns_in (and_pattern q qs) = 1 + patterns_in qs
 
 module _ (hs : List ℕ) where
-  abbrev pub seg_cuts : Segs → Env → List Bool → ℕ
-  seg_cuts no_seg env bs = 0
-  seg_cuts (and_seg (seg q v h) ss) env bs =
-      elim (taken_size h (Some (read env v)) (length bs)) [
-        | None ↦ 0
-        | Some n ↦
-            let t = segment_value h (take n bs) in
-            made hs h q + (elim (match_segment q t) [ None ↦ 0 | Some xs ↦ seg_cuts ss (with_segment env q t) (drop n bs) ])
-      ]
+  -- of each segment
+  abbrev pub each_made : Segs → List ℕ
+  each_made no_seg = []
+  each_made (and_seg (seg q v h) ss) = made hs h q ∷ each_made ss
 
   module _ (env : Env) where
     abbrev mutual
       pub cuts : Pattern → Term → ℕ
       cuts (cons_like p q) (T.cons x y) = cuts p x + cuts q y
-      cuts (tuple_like ps) (T.tuple ts) = if eqb (pattern_count ps) (count ts) then all_cuts ps ts else 0
+      cuts (tuple_like ps) (T.tuple ts) = if eqb (patterns_in ps) (count ts) then all_cuts ps ts else 0
       cuts (map_like ks) (T.map ps) = key_cuts ks ps
-      cuts (bits_like ss) (T.bits bs) = seg_cuts ss env bs
+      cuts (bits_like ss) (T.bits bs) = seg_cuts (each_made ss) (segments_of ss) env bs
       cuts (alias x q) t = cuts q t
       cuts _ t = 0
 
@@ -114,4 +101,5 @@ module _ (hs : List ℕ) where
 
       pub key_cuts : KeyPatterns → Pairs → ℕ
       key_cuts no_key ps = 0
-      key_cuts (and_key (key_pattern v q) ks) ps = if_there (value_at ps (read env v)) 0 (λ t. cuts q t) + key_cuts ks ps
+      key_cuts (and_key (key_pattern v q) ks) ps =
+          if_there (value_at ps (read env v)) (λ t. cuts q t) 0 + key_cuts ks ps

@@ -6,7 +6,7 @@ use Rattle.core_form.specs.declared.module.Module.{Module}
 use Rattle.erl_term.specs.View.{attribute_view}
 use Rattle.core_form.specs.View.{defs, def_view, module_view}
 use Rattle.erl_term.specs.declared.term.Attribute.{Attribute}
-use Rattle.beam_table.specs.TextRange.{in_signed}
+use Rattle.erl_term.specs.Ranges.{is_within_128}
 use Rattle.beam_table.specs.ValidModule.{keys_distinct}
 use mir.Syntax.{w128}
 use Rattle.pass_line.proofs.EachOnce.{are_new-keys_distinct}
@@ -57,6 +57,6 @@ attributed m h p = by m.attributes h p.no_attributes
     by [] g e = g refl
     by (a ∷ as') g e = cc
 
-pub in_signed-fits : (z : ℤ) → FitsSigned w128 z → in_signed z ≡ true
-in_signed-fits (pos n) h = search (rules, h)
-in_signed-fits (negsuc n) h = search (rules, h)
+pub is_within_128-fits : (z : ℤ) → FitsSigned w128 z → is_within_128 z ≡ true
+is_within_128-fits (pos n) h = search (rules, h)
+is_within_128-fits (negsuc n) h = search (rules, h)

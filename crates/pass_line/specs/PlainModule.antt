@@ -7,7 +7,7 @@ use Rattle.term_text.specs.Atoms.{is_plain_name}
 use Rattle.core_form.specs.declared.tree.Binder.{Binder}
 use Rattle.core_form.specs.declared.module.FunName.{FunName}
 use Rattle.core_form.specs.Core.{Expr, literal, var, fun, Def, Defs, no_def, and_def, def, Module}
-use Rattle.beam_table.specs.TextRange.{in_signed}
+use Rattle.erl_term.specs.Ranges.{is_within_128}
 use Rattle.beam_table.specs.ValidModule.{every, is_key, keys_distinct}
 
 -- an atom that is written without quotes, of at most 255 characters
@@ -41,7 +41,7 @@ are_distinct (x ∷ xs) = not (is_bound x.name xs) && are_distinct xs
 
 -- an integer within 128 signed bits, or an atom
 abbrev pub is_plain_literal : Term → Bool
-is_plain_literal (int z) = in_signed z
+is_plain_literal (int z) = is_within_128 z
 is_plain_literal (atom a) = is_plain_atom a
 is_plain_literal _ = false
 

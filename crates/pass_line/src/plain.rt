@@ -3,7 +3,7 @@ ghost use Rattle.std.specs.Prelude.{◌≡◌, ◌↔◌, [], map, true, false, 
 ghost use Rattle.erl_base.specs.Names.{same_name};
 ghost use Rattle.erl_term.specs.View as Terms;
 ghost use Rattle.core_form.specs.View.{view, def_view, defs, module_view};
-ghost use Rattle.beam_table.specs.TextRange.{in_signed};
+ghost use Rattle.erl_term.specs.Ranges.{is_within_128};
 ghost use Rattle.pass_line.specs.PlainModule.{is_plain_atom, is_bound, are_distinct, is_plain_literal, is_plain_body, is_plain_def, are_plain, keys_of, are_new, are_known, IsPlain};
 
 use crate::keys::{KeySet, characters_of};
@@ -52,7 +52,7 @@ fn are_distinct(xs: &[Binder]) -> bool
 
 // The type holds no integer past 128 signed bits.
 fn is_within(_number: i128) -> bool
-    ensures { result ≡ in_signed _number }
+    ensures { result ≡ is_within_128 _number }
 {
     true
 }

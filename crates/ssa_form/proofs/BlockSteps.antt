@@ -14,7 +14,7 @@ use Rattle.ssa_form.specs.Ssa as Ssa
 use Rattle.ssa_form.specs.Ssa.{Op, FrameAction, Set, Last, Phi, Block, Body, block_at}
 use Rattle.ssa_form.specs.Storage.{Held, term, Handler, Storage, Frame, After, on, pick, up, over, Around, go_on, if_some, kept}
 use Rattle.ssa_form.specs.SetFacts.{breaks_cycle}
-use Rattle.ssa_form.specs.Flow.{place, after_op, Reached}
+use Rattle.ssa_form.specs.Flow.{point, after_op, Reached}
 use Rattle.ssa_form.specs.WellFormed.{any_op, lands_for}
 use Rattle.ssa_form.specs.Operations.{put, follows}
 use Rattle.ssa_form.specs.SsaRun.{Raised, is_landing, is_catch_end, lands, ends_catch, chain_does, phi_values, put_each, closed, catches, landed, begins, entered_by}
@@ -76,8 +76,8 @@ lands_breaks v (x ∷ y ∷ z ∷ xs) e = first_breaks x (y ∷ z ∷ xs) (eithe
 
 -- a block is entered by the way there, or by a raise that a handler takes
 abbrev pub Came : Body → ℕ → Option Raised → List Handler → Type 0
-Came b n None hs = Reached b (place n 0) hs
-Came b n (Some e) hs = (h : Handler) × (is' : List Handler) × (hs ≡ h ∷ is') × Reached b (place n 0) is'
+Came b n None hs = Reached b (point n 0) hs
+Came b n (Some e) hs = (h : Handler) × (is' : List Handler) × (hs ≡ h ∷ is') × Reached b (point n 0) is'
 
 module _ {S : Type 0} (o : Storage S) (around : Around) (here : Here) (lowers : Lowers here.enter) (open_in : S → List Handler) (tracks : Tracks o open_in) where
   put_in : (dst : Option ℕ) (h : Held) (f0 : Frame S) (s0 : State) (f : Frame S) (s : State) → Eases open_in f0 s0 f s → OnlyOn open_in f0 s0 (put o around here dst h f s)
@@ -194,7 +194,7 @@ module _ {S : Type 0} (o : Storage S) (around : Around) (here : Here) (lowers : 
         → Leaves zs f s (chain_does o around here x.before x.last ys g u)
     rest_after ys k zs f s g u hs t l e i h r = chained_landed zs ys f s g u _ t l (chain_steps b n x there o around here lowers open_in tracks ys k g u h (subst (At b n x there ys k) (sym e) r) i)
 
-    catch_steps : (y : Set) (ys : List Set) (e : Raised) (f : Frame S) (s : State) (h : Handler) (hs : List Handler) → open_in f.store ≡ h ∷ hs → Reached b (place n 0) hs → Fits f s → From b n x there (y ∷ ys) 0
+    catch_steps : (y : Set) (ys : List Set) (e : Raised) (f : Frame S) (s : State) (h : Handler) (hs : List Handler) → open_in f.store ≡ h ∷ hs → Reached b (point n 0) hs → Fits f s → From b n x there (y ∷ ys) 0
         → Leaves (y ∷ ys) f s (catches o around here x.before x.last (y ∷ ys) e f s)
     catch_steps y ys e f s h hs p r i from = when_holds (Leaves (y ∷ ys) f s) tt (ends_catch e.tag y) _ (λ t.
         closed_holds (Leaves (y ∷ ys) f s) tt e.tag f s (λ g. go_on (follows o around here y.dst g (exit_of e.class e.reason s)) (chain_does o around here x.before x.last ys)) h hs p (λ st w q.
@@ -213,7 +213,7 @@ module _ {S : Type 0} (o : Storage S) (around : Around) (here : Here) (lowers : 
     abbrev three : Set → Set → Set → List Set → Raised → Frame S → State → After S
     three y z v ys e f s = closed o around here e.tag f (λ g. go_on (put o around here y.dst (term (class_word e.class)) g s) (second z v ys e))
 
-    three_land : (y z v : Set) (ys : List Set) (e : Raised) (f : Frame S) (s : State) (h : Handler) (hs : List Handler) → open_in f.store ≡ h ∷ hs → Reached b (place n 0) hs → Fits f s → From b n x there (y ∷ z ∷ v ∷ ys) 0
+    three_land : (y z v : Set) (ys : List Set) (e : Raised) (f : Frame S) (s : State) (h : Handler) (hs : List Handler) → open_in f.store ≡ h ∷ hs → Reached b (point n 0) hs → Fits f s → From b n x there (y ∷ z ∷ v ∷ ys) 0
         → IsTrue (lands e.tag y) → IsTrue (lands e.tag z) → IsTrue (lands e.tag v) → Leaves (y ∷ z ∷ v ∷ ys) f s (three y z v ys e f s)
     three_land y z v ys e f s h hs p r i from t1 t2 t3 =
         closed_holds P tt e.tag f s (λ g. go_on (put o around here y.dst (term (class_word e.class)) g s) (second z v ys e)) h hs p (λ st w q.
@@ -235,13 +235,13 @@ module _ {S : Type 0} (o : Storage S) (around : Around) (here : Here) (lowers : 
         from3 : From b n x there ys 3
         from3 = tail_from b n x there v ys 2 from2
 
-        at1 : Reached b (place n 1) hs
-        at1 = subst (Reached b (place n 1)) (landing_after y.op hs (lands_op e.tag y t1)) (at_next b n x there y (z ∷ v ∷ ys) 0 hs from r)
+        at1 : Reached b (point n 1) hs
+        at1 = subst (Reached b (point n 1)) (landing_after y.op hs (lands_op e.tag y t1)) (at_next b n x there y (z ∷ v ∷ ys) 0 hs from r)
 
-        at2 : Reached b (place n 2) hs
-        at2 = subst (Reached b (place n 2)) (landing_after z.op hs (lands_op e.tag z t2)) (at_next b n x there z (v ∷ ys) 1 hs from1 at1)
+        at2 : Reached b (point n 2) hs
+        at2 = subst (Reached b (point n 2)) (landing_after z.op hs (lands_op e.tag z t2)) (at_next b n x there z (v ∷ ys) 1 hs from1 at1)
 
-    landed_steps : (ys : List Set) (e : Raised) (f : Frame S) (s : State) (h : Handler) (hs : List Handler) → open_in f.store ≡ h ∷ hs → Reached b (place n 0) hs → Fits f s → From b n x there ys 0
+    landed_steps : (ys : List Set) (e : Raised) (f : Frame S) (s : State) (h : Handler) (hs : List Handler) → open_in f.store ≡ h ∷ hs → Reached b (point n 0) hs → Fits f s → From b n x there ys 0
         → Leaves ys f s (landed o around here x.before x.last ys e f s)
     landed_steps [] e f s h hs p r i from = tt
     landed_steps (y ∷ []) e f s h hs p r i from = catch_steps y [] e f s h hs p r i from
@@ -254,7 +254,7 @@ module _ {S : Type 0} (o : Storage S) (around : Around) (here : Here) (lowers : 
 
     -- From the block's entry.
 
-    at_any : (ys : List Set) (k : ℕ) (hs : List Handler) → Reached b (place n k) hs → At b n x there ys k hs
+    at_any : (ys : List Set) (k : ℕ) (hs : List Handler) → Reached b (point n k) hs → At b n x there ys k hs
     at_any [] k hs r = λ t. r
     at_any (y ∷ ys) k hs r = r
 

@@ -7,7 +7,7 @@ use Rattle.ssa_form.specs.Ssa as Ssa
 use Rattle.ssa_form.specs.Ssa.{Arg, Op, FrameAction, Set, Last, br, succeeded, switch, ret, Phi, Block, Body, block_at}
 use Rattle.ssa_form.specs.Storage.{Handler, Storage, Frame, After, on, pick, up, over, Mode, plain, tail, jump, tests, Around, in_window, go_on, kept}
 use Rattle.ssa_form.specs.SetFacts.{is_tests, is_peek, may_raise, breaks_cycle}
-use Rattle.ssa_form.specs.Flow.{place, set_from, set_in, set_at, after_op, goes, Reached, passes}
+use Rattle.ssa_form.specs.Flow.{point, set_from, set_in, set_at, after_op, goes, Reached, passes}
 use Rattle.ssa_form.specs.WellFormed.{any_op, tests_nothing}
 use Rattle.ssa_form.specs.Operations.{all_held, does}
 use Rattle.ssa_form.specs.SsaRun.{is_dst, mode_of, acts_do, set_does, chain_does}
@@ -96,19 +96,19 @@ module _ (b : Body) (n : ℕ) (x : Block) (there : block_at b n ≡ Some x) wher
   unfolding plus
   tail_from y ys k h = record { sets = λ j. h.sets (suc j); long = let l : k + length (y ∷ ys) ≡ length x.chain = h.long in omega (arith, l) }
 
-  pub head_there : (y : Set) (ys : List Set) (k : ℕ) → From (y ∷ ys) k → set_at b (place n k) ≡ Some (y, mode_of y.dst ys x.before x.last)
+  pub head_there : (y : Set) (ys : List Set) (k : ℕ) → From (y ∷ ys) k → set_at b (point n k) ≡ Some (y, mode_of y.dst ys x.before x.last)
   unfolding plus
   head_there y ys k h = ap (λ o. set_in o k) there ∙ sym (h.sets zero)
 
   -- reached, where the last doesn't test what it must not
   abbrev pub At : List Set → ℕ → List Handler → Type 0
-  At [] k hs = IsTrue (tests_nothing (Some x.last)) → Reached b (place n k) hs
-  At (y ∷ ys) k hs = Reached b (place n k) hs
+  At [] k hs = IsTrue (tests_nothing (Some x.last)) → Reached b (point n k) hs
+  At (y ∷ ys) k hs = Reached b (point n k) hs
 
-  pub passed : (y : Set) (m : Mode) (k : ℕ) (hs : List Handler) → set_at b (place n k) ≡ Some (y, m) → IsFalse (is_tests m) → Reached b (place n k) hs → Reached b (place n (suc k)) (after_op y.op hs)
-  passed y m k hs e t (vs, w) = (_, goes (place n k) (place n (suc k)) vs hs (after_op y.op hs) _ w (passes (place n k) hs y m e t))
+  pub passed : (y : Set) (m : Mode) (k : ℕ) (hs : List Handler) → set_at b (point n k) ≡ Some (y, m) → IsFalse (is_tests m) → Reached b (point n k) hs → Reached b (point n (suc k)) (after_op y.op hs)
+  passed y m k hs e t (vs, w) = (_, goes (point n k) (point n (suc k)) vs hs (after_op y.op hs) _ w (passes (point n k) hs y m e t))
 
-  pub at_next : (y : Set) (ys : List Set) (k : ℕ) (hs : List Handler) → From (y ∷ ys) k → Reached b (place n k) hs → At ys (suc k) (after_op y.op hs)
+  pub at_next : (y : Set) (ys : List Set) (k : ℕ) (hs : List Handler) → From (y ∷ ys) k → Reached b (point n k) hs → At ys (suc k) (after_op y.op hs)
   at_next y [] k hs h r = λ t. passed y _ k hs (head_there y [] k h) (untested y.dst x.before x.last t) r
   at_next y (z ∷ zs) k hs h r = passed y _ k hs (head_there y (z ∷ zs) k h) refl r
 
@@ -117,7 +117,7 @@ module _ (b : Body) (n : ℕ) (x : Block) (there : block_at b n ≡ Some x) wher
     pub record Through (g : Frame S) (u : State) : Type 0 where
       pub low : u.left ≤ s.left
       pub fits : Fits g u
-      pub reached : IsTrue (tests_nothing (Some x.last)) → Reached b (place n (length x.chain)) (open_in g.store)
+      pub reached : IsTrue (tests_nothing (Some x.last)) → Reached b (point n (length x.chain)) (open_in g.store)
       pub falls : IsFalse (any_op breaks_cycle xs) → AtMost (rank g u) (rank f s)
       pub looks : IsFalse (any_op breaks_cycle xs) → IsTrue (any_op is_peek xs) → Lower (rank g u) (rank f s)
 
@@ -128,9 +128,9 @@ module _ (b : Body) (n : ℕ) (x : Block) (there : block_at b n ≡ Some x) wher
       pub at : ℕ
       pub by : Set
       pub tested : ℕ
-      pub is_there : set_at b (place n at) ≡ Some (by, tests tested)
+      pub is_there : set_at b (point n at) ≡ Some (by, tests tested)
       pub before : List Handler
-      pub reached : Reached b (place n at) before
+      pub reached : Reached b (point n at) before
       pub handlers : open_in g.store ≡ picked_handlers c by.op by.dst tested before
       pub starts : c ≡ false → by.op ≡ Ssa.try_start → ⊥
       pub last : Tested [] x.last tested
@@ -143,8 +143,8 @@ module _ (b : Body) (n : ℕ) (x : Block) (there : block_at b n ≡ Some x) wher
       pub at : ℕ
       pub by : Set
       pub mode : Mode
-      pub is_there : set_at b (place n at) ≡ Some (by, mode)
-      pub reached : Reached b (place n at) (open_in g.store)
+      pub is_there : set_at b (point n at) ≡ Some (by, mode)
+      pub reached : Reached b (point n at) (open_in g.store)
       pub may : IsTrue (may_raise mode by.op)
 
     abbrev pub Chained : After S → Type 0
@@ -245,7 +245,7 @@ module _ (b : Body) (n : ℕ) (x : Block) (there : block_at b n ≡ Some x) wher
     nothing_looks y [] e t = or_nothing _ _ t refl
     nothing_looks y (z ∷ zs) e t = absurd cc
 
-    chain_after : (y : Set) (ys : List Set) (k : ℕ) (f : Frame S) (s : State) (a : After S) (c : Frame S → State → After S) → From (y ∷ ys) k → Reached b (place n k) (open_in f.store)
+    chain_after : (y : Set) (ys : List Set) (k : ℕ) (f : Frame S) (s : State) (a : After S) (c : Frame S → State → After S) → From (y ∷ ys) k → Reached b (point n k) (open_in f.store)
         → Steps open_in y.op (mode_of y.dst ys x.before x.last) y.dst f s a
         → ((g : Frame S) (u : State) → Fits g u → At ys (suc k) (open_in g.store) → Chained open_in ys g u (c g u))
         → Chained open_in (y ∷ ys) f s (go_on a c)
@@ -265,7 +265,7 @@ module _ (b : Body) (n : ℕ) (x : Block) (there : block_at b n ≡ Some x) wher
       falls = λ q. p.falls (or_false _ _ q).0;
       looks = λ q l. let t : Tested ys x.last p.tested = tested_by y.dst ys x.before x.last p.tested p.mode in p.looks (nothing_looks y ys t.nothing_after l);
     }
-    chain_after y ys k f s (up v z g u) c h r p i = record { low = p.low; at = k; by = y; mode = mode_of y.dst ys x.before x.last; is_there = head_there y ys k h; reached = subst (Reached b (place n k)) (sym p.handlers) r; may = p.may }
+    chain_after y ys k f s (up v z g u) c h r p i = record { low = p.low; at = k; by = y; mode = mode_of y.dst ys x.before x.last; is_there = head_there y ys k h; reached = subst (Reached b (point n k)) (sym p.handlers) r; may = p.may }
     chain_after y ys k f s (over u q) c h r p i = p
     chain_after y ys k f s After.bad c h r p i = tt
 
@@ -273,7 +273,7 @@ module _ (b : Body) (n : ℕ) (x : Block) (there : block_at b n ≡ Some x) wher
     ended_chain k f s (on g u) h r i e = record {
       low = e.low;
       fits = e.fits i;
-      reached = λ t. subst (λ j. Reached b (place n j) (open_in g.store)) (let l : k + 0 ≡ length x.chain = h.long in omega (arith, l)) (subst (Reached b (place n k)) (sym e.handlers) (r t));
+      reached = λ t. subst (λ j. Reached b (point n j) (open_in g.store)) (let l : k + 0 ≡ length x.chain = h.long in omega (arith, l)) (subst (Reached b (point n k)) (sym e.handlers) (r t));
       falls = λ q. e.falls;
       looks = λ q l. absurd cc;
     }

@@ -3,8 +3,9 @@ use Rattle.std.proofs.Common.{◌≡◌, ◌≢◌, ◌≤◌, ◌⊎◌, ⊎_el
 use Rattle.erl_term.specs.Term.{Term}
 use Rattle.world_model.specs.Run.{State, Outcome}
 use Rattle.step_machine.specs.Bodies.{Here}
+use Rattle.step_machine.specs.Frames.{MatchContext}
 use Rattle.ssa_form.specs.Ssa.{Body}
-use Rattle.ssa_form.specs.Storage.{Context, Storage, Around, Ended, done, unfinished}
+use Rattle.ssa_form.specs.Storage.{Storage, Around, Ended, done, unfinished}
 use Rattle.ssa_form.specs.SsaRun.{in_vars, body_run, all_terms, ssa_run}
 use Rattle.ssa_form.specs.PlacedRun as Placed
 use Rattle.ssa_form.specs.PlacedRun.{in_registers, no_registers, run_if, placed_run}
@@ -36,7 +37,7 @@ one_of run h k j r q e f = ⊎_elim
     (λ l. some_same r q (sym e ∙ ap result_of (h j k l (is_over (run j) q f)) ∙ f))
     (order k j)
 
-body_stays : {S : Type 0} (o : Storage S) (around : Around) (here : Here) (b : Body) (st : S) (cs : List Context) (s : State) → Stays (λ k. body_run o around here b k st cs s)
+body_stays : {S : Type 0} (o : Storage S) (around : Around) (here : Here) (b : Body) (st : S) (cs : List MatchContext) (s : State) → Stays (λ k. body_run o around here b k st cs s)
 body_stays o around here b st cs s k j l u = more o around here b k j l None 0 0 _ s u
 
 if_stays : {A : Type 0} (x : Option A) (run : ℕ → A → Ended) → ((a : A) → Stays (λ k. run k a)) → Stays (λ k. run_if x (run k))

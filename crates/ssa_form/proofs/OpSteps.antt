@@ -10,11 +10,12 @@ use Rattle.world_model.specs.World as W
 use Rattle.world_model.specs.World.{Reply, Message}
 use Rattle.world_model.specs.Run.{State, answered, noting, cut}
 use Rattle.step_machine.specs.EntryBound.{Lowers}
+use Rattle.step_machine.specs.Frames.{rest_of}
 use Rattle.ssa_form.specs.Ssa as Ssa
 use Rattle.ssa_form.specs.Ssa.{Arg, var, lit, Op}
 use Rattle.ssa_form.specs.Checks.{holds}
 use Rattle.ssa_form.specs.Storage.{Held, unset, term, context, position, marker, Handler, Frame, After, on, pick, up, over, Mode, plain, tail, jump, tests, go_on, if_some}
-use Rattle.ssa_form.specs.Values.{terms_of, parts_of, rest_of}
+use Rattle.ssa_form.specs.Values.{terms_of, parts_of}
 use Rattle.ssa_form.specs.SetFacts.{is_tests, may_raise, never_raises, is_peek, breaks_cycle}
 use Rattle.ssa_form.specs.Flow.{after_op, opened}
 use Rattle.ssa_form.specs.Operations.{put, collected, gives_held, at_context, answers, created, open_does, close_does, seen, seen_or, looks, peek_does, use_does, on_terms, does}

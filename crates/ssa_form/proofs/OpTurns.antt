@@ -11,11 +11,13 @@ use Rattle.world_model.specs.World.{Reply, Message, Delay, forever, millis}
 use Rattle.world_model.specs.Run.{State, Outcome, gives, raises, waits, spent, M, ◌>>=◌, going_on, ask, ask_from, answered}
 use Rattle.world_model.specs.Meaning.{single}
 use Rattle.world_model.specs.MapUpdate.{put_all}
+use Rattle.world_model.specs.RemoteCalls.{takes, raise_again}
 use Rattle.world_model.specs.Receive.{Timeout, now, in', wrong, timeout_of, without}
 use Rattle.step_machine.specs.Bodies.{Here}
 use Rattle.step_machine.specs.EntryBound.{Lowers}
-use Rattle.ssa_form.specs.Storage.{Held, term, context, position, marker, Context, Handler, Leaving, calls, ends_body, Storage, Frame, After, on, pick, up, over, Mode, plain, tail, jump, tests, Around, go_on, when, if_some, outside, inside, kept, in_window}
-use Rattle.ssa_form.specs.Values.{handed, takes, raises_always, raise_again, puts_of, is_tail}
+use Rattle.step_machine.specs.Frames.{MatchContext}
+use Rattle.ssa_form.specs.Storage.{Held, term, context, position, marker, Handler, Leaving, calls, ends_body, Storage, Frame, After, on, pick, up, over, Mode, plain, tail, jump, tests, Around, go_on, when, if_some, outside, inside, kept, in_window}
+use Rattle.ssa_form.specs.Values.{handed, raises_always, puts_of, is_tail}
 use Rattle.ssa_form.specs.SetFacts.{is_tests}
 use Rattle.ssa_form.specs.Operations.{put, collected, forgotten, gives_held, asked, found, answers, leaving, follows, ends_with, calls_by, leaving_of, local_does, remote_does, fun_does, send_does, raise_does, cons_does, map_does, option_held, key_does, element_does, cell_does, fun_made, start_does, with_context, at_context, took, takes_segment, restore_does, take_does, skip_does, waited, waits_for, wait_does, bind_does}
 use Rattle.ssa_form.proofs.Rank.{by_left, by_replies, by_mailbox, by_ahead, AtMost, lower, same, most_twice, closed, rank, Fits}
@@ -245,7 +247,7 @@ module _ {S : Type 0} (w : Walk S) where
 
   module _ (lowers : Lowers w.here.enter) where
     pub local_quiet : (n : ℕ) (m : Mode) (dst : Option ℕ) (hs : List Held) (f : Frame S) (s : State) → Eased f s → Q m true (local_does w.o w.around w.here n m dst hs f s)
-    local_quiet n m dst hs f s e = when_quiet m true (takes w.around.arities n (length hs)) _ (λ t.
+    local_quiet n m dst hs f s e = when_quiet m true (takes (slice_get w.around.arities n) (length hs)) _ (λ t.
         some_quiet m true (handed (is_tail m) f.contexts w.around.reached n hs) _ (λ vs p.
         calls_quiet m true m calls dst _ f s (call_spends w.around w.here lowers n (is_tail m) vs) (λ c y q. refl) e))
 
@@ -308,16 +310,16 @@ module _ {S : Type 0} (w : Walk S) where
   start_quiet m r dst (term t ∷ []) f s e = asked_quiet m r false f s e
   start_quiet m r dst _ f s e = tt
 
-  pub with_quiet : (m : Mode) (r : Bool) (f : Frame S) (h : Held) (k : ℕ → Context → After S) → ((n : ℕ) (v : Context) → Q m r (k n v)) → Q m r (with_context w.o w.around w.here f h k)
+  pub with_quiet : (m : Mode) (r : Bool) (f : Frame S) (h : Held) (k : ℕ → MatchContext → After S) → ((n : ℕ) (v : MatchContext) → Q m r (k n v)) → Q m r (with_context w.o w.around w.here f h k)
   with_quiet m r f (context n) k h = some_quiet m r (slice_get f.contexts n) (k n) (λ v p. h n v)
   with_quiet m r f _ k h = tt
 
-  pub at_quiet : (m : Mode) (r : Bool) (f : Frame S) (hs : List Held) (k : Context → After S) → ((v : Context) → Q m r (k v)) → Q m r (at_context w.o w.around w.here f hs k)
+  pub at_quiet : (m : Mode) (r : Bool) (f : Frame S) (hs : List Held) (k : MatchContext → After S) → ((v : MatchContext) → Q m r (k v)) → Q m r (at_context w.o w.around w.here f hs k)
   at_quiet m r f (x ∷ []) k h = with_quiet m r f x _ (λ n v. h v)
   at_quiet m r f [] k h = tt
   at_quiet m r f (x ∷ y ∷ hs) k h = tt
 
-  pub took_quiet : (m : Mode) (r : Bool) (n : ℕ) (v : Context) (x : Option ℕ) (f : Frame S) (s : State) (k : List Bool → Frame S → After S) → Eased f s → ((bs : List Bool) (g : Frame S) → Eased g s → Q m r (k bs g)) → Q m r (took w.o w.around w.here m n v x f s k)
+  pub took_quiet : (m : Mode) (r : Bool) (n : ℕ) (v : MatchContext) (x : Option ℕ) (f : Frame S) (s : State) (k : List Bool → Frame S → After S) → Eased f s → ((bs : List Bool) (g : Frame S) → Eased g s → Q m r (k bs g)) → Q m r (took w.o w.around w.here m n v x f s k)
   took_quiet m r n v None f s k e h = asked_quiet m r false f s e
   took_quiet m r n v (Some j) f s k e h = h _ _ (record { low = e.low; handlers = e.handlers; fits = e.fits; falls = e.falls })
 

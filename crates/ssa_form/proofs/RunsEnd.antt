@@ -4,9 +4,10 @@ use Rattle.erl_term.specs.Term.{Term}
 use Rattle.world_model.specs.Run.{State, Outcome}
 use Rattle.step_machine.specs.Bodies.{Here}
 use Rattle.step_machine.specs.EntryBound.{Lowers}
+use Rattle.step_machine.specs.Frames.{MatchContext}
 use Rattle.ssa_form.specs.Ssa.{Body}
-use Rattle.ssa_form.specs.Storage.{Context, Handler, Storage, Ended, done, unfinished, Around}
-use Rattle.ssa_form.specs.Flow.{place, begins, Reached}
+use Rattle.ssa_form.specs.Storage.{Handler, Storage, Ended, done, unfinished, Around}
+use Rattle.ssa_form.specs.Flow.{point, begins, Reached}
 use Rattle.ssa_form.specs.SsaRun.{in_vars, body_run, ssa_run}
 use Rattle.ssa_form.specs.PlacedRun as Placed
 use Rattle.ssa_form.specs.PlacedRun.{Registers, in_registers, no_registers, run_if, placed_run}
@@ -21,19 +22,19 @@ use Rattle.ssa_form.proofs.Turns.{Config, Good}
 use Rattle.ssa_form.proofs.Cycles.{is_over_soon, runs_lower}
 
 module _ {S : Type 0} (o : Storage S) (around : Around) (here : Here) (lowers : Lowers here.enter) (open_in : S → List Handler) (tracks : Tracks o open_in) (b : Body) where
-  abbrev first_config : S → List Context → State → Config S
+  abbrev first_config : S → List MatchContext → State → Config S
   first_config st cs s = record { raised = None; from = 0; at = 0; frame = record { store = st; contexts = cs; save = 0; window = None }; state = s }
 
-  first_good : (st : S) (cs : List Context) (s : State) → open_in st ≡ [] → Good o around here lowers open_in tracks b (first_config st cs s)
-  first_good st cs s e = record { came = subst (Reached b (place 0 0)) (sym e) (b.params, begins); fits = λ m p. absurd (none_some None m refl p) }
+  first_good : (st : S) (cs : List MatchContext) (s : State) → open_in st ≡ [] → Good o around here lowers open_in tracks b (first_config st cs s)
+  first_good st cs s e = record { came = subst (Reached b (point 0 0)) (sym e) (b.params, begins); fits = λ m p. absurd (none_some None m refl p) }
 
-  body_ends : (st : S) (cs : List Context) (s : State) → open_in st ≡ [] → CycleRule b → IsOver (λ k. body_run o around here b k st cs s)
+  body_ends : (st : S) (cs : List MatchContext) (s : State) → open_in st ≡ [] → CycleRule b → IsOver (λ k. body_run o around here b k st cs s)
   body_ends st cs s e rule = let r : (k : ℕ) × (body_run o around here b k st cs s ≢ unfinished) = is_over_soon o around here lowers open_in tracks b rule (first_config st cs s) (first_good st cs s e) in record { within = r.0; over = r.1 }
 
-  body_lowers : (k : ℕ) (st : S) (cs : List Context) (s u : State) (q : Outcome Term) → open_in st ≡ [] → body_run o around here b k st cs s ≡ done u q → u.left ≤ s.left
+  body_lowers : (k : ℕ) (st : S) (cs : List MatchContext) (s u : State) (q : Outcome Term) → open_in st ≡ [] → body_run o around here b k st cs s ≡ done u q → u.left ≤ s.left
   body_lowers k st cs s u q e h = runs_lower o around here lowers open_in tracks b k (first_config st cs s) (first_good st cs s e) u q h
 
--- where the arguments have a place
+-- where the arguments have a point
 if_ends : {A : Type 0} (x : Option A) (run : ℕ → A → Ended) → ((a : A) → x ≡ Some a → IsOver (λ k. run k a)) → IsOver (λ k. run_if x (run k))
 if_ends None run h = record { within = 0; over = λ e. cc }
 if_ends (Some a) run h = let r : IsOver (λ k. run k a) = h a refl in record { within = r.within; over = r.over }

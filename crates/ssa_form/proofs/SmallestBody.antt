@@ -3,7 +3,7 @@ use Rattle.std.proofs.Common.{rules, ◌≡◌, ℕ, zero, suc, List, [], ◌∷
 use Rattle.ssa_form.specs.Ssa.{var, Set, Last, ret, block, Body}
 use Rattle.ssa_form.specs.Storage.{Handler, Mode, tests}
 use Rattle.ssa_form.specs.SetFacts.{all_among, none_among}
-use Rattle.ssa_form.specs.Flow.{Place, place, set_at, last_at, phis_at, targets, Effect, Step, passes, leads, succeeds, fails, raises, Way, begins, goes, Reached, Leads, Passing, one, more}
+use Rattle.ssa_form.specs.Flow.{Point, point, set_at, last_at, phis_at, targets, Effect, Step, passes, leads, succeeds, fails, raises, Way, begins, goes, Reached, Leads, Passing, one, more}
 use Rattle.ssa_form.specs.Liveness.{used_at, values_at, lands_first}
 use Rattle.ssa_form.specs.ReceiveWindow.{Look}
 use Rattle.ssa_form.specs.WellFormed.{WellFormed, SetsOnce, tests_nothing, tags_in}
@@ -12,51 +12,51 @@ use Rattle.ssa_form.proofs.Bodies.{plain_block, body_of}
 abbrev pub identity : Body
 identity = body_of (0 ∷ []) (plain_block [] (ret (var 0)) ∷ [])
 
-abbrev start : Place
-start = place 0 0
+abbrev start : Point
+start = point 0 0
 
 none_some : (o : Option (Set × Mode)) (x : Set × Mode) → o ≡ None → o ≡ Some x → ⊥
 none_some o x e f = let g : None ≡ Some x = sym e ∙ f in cc
 
-no_set : (p : Place) (x : Set) (m : Mode) → p ≡ start → set_at identity p ≡ Some (x, m) → ⊥
+no_set : (p : Point) (x : Set) (m : Mode) → p ≡ start → set_at identity p ≡ Some (x, m) → ⊥
 no_set p x m h e = none_some _ _ refl (subst (λ q. set_at identity q ≡ Some (x, m)) h e)
 
 none_in : (n : ℕ) → Contains [] n → ⊥
 none_in n h = search rules
 
-only_ret : (p : Place) (l : Last) → p ≡ start → last_at identity p ≡ Some l → l ≡ ret (var 0)
+only_ret : (p : Point) (l : Last) → p ≡ start → last_at identity p ≡ Some l → l ≡ ret (var 0)
 only_ret p l h e = let f : Some (ret (var 0)) ≡ Some l = subst (λ q. last_at identity q ≡ Some l) h e in cc
 
-no_target : (p : Place) (l : Last) (n : ℕ) → p ≡ start → last_at identity p ≡ Some l → Contains (targets l) n → ⊥
+no_target : (p : Point) (l : Last) (n : ℕ) → p ≡ start → last_at identity p ≡ Some l → Contains (targets l) n → ⊥
 no_target p l n h e c = none_in n (subst (λ k. Contains (targets k) n) (only_ret p l h e) c)
 
-no_step : (p q : Place) (hs is' : List Handler) (e : Effect) → p ≡ start → Step identity p hs q is' e → ⊥
+no_step : (p q : Point) (hs is' : List Handler) (e : Effect) → p ≡ start → Step identity p hs q is' e → ⊥
 no_step _ _ _ _ _ h (passes p hs x m f t) = no_set p x m h f
 no_step _ _ _ _ _ h (leads p hs l n f c) = no_target p l n h f c
 no_step _ _ _ _ _ h (succeeds p hs x v t e f g) = no_set p x (tests e) h f
 no_step _ _ _ _ _ h (fails p hs x e f g) = no_set p x (tests e) h f
 no_step _ _ _ _ _ h (raises p i hs x m f g) = no_set p x m h f
 
-pub record Only (p : Place) (vs : List ℕ) (hs : List Handler) : Type 0 where
+pub record Only (p : Point) (vs : List ℕ) (hs : List Handler) : Type 0 where
   pub at : p ≡ start
   pub vars : vs ≡ 0 ∷ []
   pub handlers : hs ≡ []
 
-only : (p : Place) (vs : List ℕ) (hs : List Handler) → Way identity p vs hs → Only p vs hs
+only : (p : Point) (vs : List ℕ) (hs : List Handler) → Way identity p vs hs → Only p vs hs
 only _ _ _ begins = record { at = refl; vars = refl; handlers = refl }
 only _ _ _ (goes p q vs hs is' e w s) = absurd (no_step p q hs is' e (only p vs hs w).at s)
 
-at_start : (p : Place) (hs : List Handler) → Reached identity p hs → p ≡ start
+at_start : (p : Point) (hs : List Handler) → Reached identity p hs → p ≡ start
 at_start p hs r = (only p r.0 hs r.1).at
 
 no_lead : (n m : ℕ) → Leads identity n m → ⊥
-no_lead n m (k, hs, is', e, r, s) = no_step (place n k) (place m 0) hs is' e (at_start _ hs r) s
+no_lead n m (k, hs, is', e, r, s) = no_step (point n k) (point m 0) hs is' e (at_start _ hs r) s
 
 no_passing : (n m : ℕ) (ns : List ℕ) → Passing identity n m ns → ⊥
 no_passing _ _ _ (one n m l) = no_lead n m l
 no_passing _ _ _ (more n m k ns l p) = no_lead n m l
 
-no_sets : (w k : ℕ) → set_at identity (place w k) ≡ None
+no_sets : (w k : ℕ) → set_at identity (point w k) ≡ None
 no_sets zero k = refl
 no_sets (suc w) k = refl
 
@@ -75,7 +75,7 @@ no_tag = search rules
 once : SetsOnce identity
 once = search rules
 
-no_landing : (n : ℕ) → IsTrue (lands_first (set_at identity (place n 0))) → phis_at identity n ≡ []
+no_landing : (n : ℕ) → IsTrue (lands_first (set_at identity (point n 0))) → phis_at identity n ≡ []
 no_landing zero e = refl
 no_landing (suc n) e = refl
 

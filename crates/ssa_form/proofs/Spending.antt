@@ -13,10 +13,11 @@ use Rattle.world_model.specs.Run.{State, Entry, entered, Outcome, gives, raises,
 use Rattle.world_model.specs.Meaning.{single}
 use Rattle.world_model.specs.MapUpdate.{Put, put_each, put_all}
 use Rattle.world_model.specs.Requests.{replied, call_out, sent, send_to, answers, is_send, send_or_call}
-use Rattle.step_machine.specs.Bodies.{Here, entry_left, calling}
+use Rattle.world_model.specs.Entries.{entry_left}
+use Rattle.world_model.specs.RemoteCalls.{call_erlang, call_terms, apply_term, raise_again}
+use Rattle.step_machine.specs.Bodies.{Here, calling, callees}
 use Rattle.step_machine.specs.EntryBound.{Lowers}
 use Rattle.ssa_form.specs.Storage.{Around}
-use Rattle.ssa_form.specs.Values.{erlang_call, remote, applied, raise_again}
 use Rattle.ssa_form.specs.SetFacts.{never_raises}
 
 -- What a meaning uses up: an entry, or a reply, or nothing.
@@ -104,16 +105,16 @@ if_spends : {A : Type 0} (b : Bool) (m n : M A) → Spends m → Spends n → Sp
 if_spends true m n h k = h
 if_spends false m n h k = k
 
-erlang_spends : (own : Term) (f : Name) (vs : Values) → Spends (erlang_call own f vs)
-unfolding erlang_call
+erlang_spends : (own : Term) (f : Name) (vs : Values) → Spends (call_erlang own f vs)
+unfolding call_erlang
 erlang_spends own f vs = listed_or (lookup f (length vs))
   where
     listed_or : (o : Option Bif) → Spends (elim o [ Some b ↦ answers (answer b own vs) | None ↦ if is_send f then send_or_call f vs else call_out (codes "erlang") f vs ])
     listed_or (Some b) = answers_spends (answer b own vs)
     listed_or None = if_spends (is_send f) _ _ (send_or_call_spends f vs) (call_out_spends _ f vs)
 
-pub remote_spends : (own m f : Term) (vs : Values) → Spends (remote own m f vs)
-unfolding remote
+pub remote_spends : (own m f : Term) (vs : Values) → Spends (call_terms own m f vs)
+unfolding call_terms
 remote_spends own (T.atom m) (T.atom f) vs = if_spends (same_name m (codes "erlang")) _ _ (erlang_spends own f vs) (call_out_spends m f vs)
 remote_spends own _ _ vs = fail_spends _ _
 
@@ -145,7 +146,7 @@ module _ (around : Around) (here : Here) (lowers : Lowers here.enter) where
   pub call_spends : (n : ℕ) (t : Bool) (vs : Values) → Spends (calling here n t vs >>= single)
   call_spends n t vs = bind_spends (calling here n t vs) single (record { at = λ s. entry_uses s.left _ n vs s refl }) (λ a. give_spends _)
 
-  pub applied_spends : (t : Term) (vs : Values) → Spends (applied around here t vs)
+  pub applied_spends : (t : Term) (vs : Values) → Spends (apply_term (callees around.arities here) t vs)
   applied_spends (T.fun m s a cs) vs = if_spends _ _ _ (fail_spends _ _) (if_spends _ _ _ (call_spends s false (vs ++ listed cs)) (call_out_spends _ _ _))
   applied_spends (T.extern m f a) vs = if_spends _ _ _ (fail_spends _ _) (call_out_spends _ _ _)
   applied_spends t vs = fail_spends _ _

@@ -1,13 +1,14 @@
 -- Registers and stack frames keep track of the handlers that are open.
 use Rattle.std.proofs.Common.{◌≡◌, ◌≤◌, ◌<◌, ℕ, zero, suc, ◌+◌, ◌-◌, List, [], ◌∷◌, length, take, drop, replicate, Bool, true, false, not, ◌&&◌, Option, Some, None, refl, sym, ap, ◌∙◌, arith, eqb, ltb, leb, leb-true, ltb-true, slice_get, if◌then◌else◌}
+use Rattle.step_machine.specs.Frames.{is_tag, lowest_tag, no_tags}
 use Rattle.ssa_form.specs.Ssa.{FrameAction, allocate, deallocate, kill, trim}
 use Rattle.ssa_form.specs.Storage.{Held, Handler, Leaving, calls, ends_body, always_raises}
-use Rattle.ssa_form.specs.Spots.{Spot, x_reg, y_slot, Spots, spot_of, slot_count, Cell, empty, killed, own, tag, is_tag, is_tag_of, with_cell}
+use Rattle.ssa_form.specs.Spots.{Spot, x_reg, y_slot, Spots, spot_of, slot_count, Cell, empty, killed, own, tag, tag_in, is_tag_of, with_cell}
 use Rattle.ssa_form.specs.SsaRun.{first_handler, without_first, only_if}
 use Rattle.ssa_form.specs.PlacedRun as Placed
 use Rattle.ssa_form.specs.PlacedRun.{Registers, in_registers}
 use Rattle.ssa_form.specs.FramedRun as Framed
-use Rattle.ssa_form.specs.FramedRun.{Stack, in_stack, no_tags, lowest_tag, with_slot, size_at, frame_is, none_empty}
+use Rattle.ssa_form.specs.FramedRun.{Stack, in_stack, with_slot, size_at, frame_is, none_empty}
 use Rattle.ssa_form.proofs.OpenHandlers.{Tracks, some_is, none_is}
 
 -- what stands behind a condition
@@ -85,7 +86,7 @@ abbrev pub frame_tags : Option (List Cell) → List Handler
 frame_tags None = []
 frame_tags (Some ys) = tags ys
 
-tags_untagged : (c : Cell) (cs : List Cell) → is_tag c ≡ false → tags (c ∷ cs) ≡ tags cs
+tags_untagged : (c : Cell) (cs : List Cell) → is_tag tag_in c ≡ false → tags (c ∷ cs) ≡ tags cs
 tags_untagged (tag v b) cs e = absurd cc
 tags_untagged empty cs e = refl
 tags_untagged killed cs e = refl
@@ -97,7 +98,7 @@ tags_behind empty cs ds e = e
 tags_behind killed cs ds e = e
 tags_behind (own v h) cs ds e = e
 
-lowest_first : (ys : List Cell) → lowest_tag ys ≡ first_handler (tags ys)
+lowest_first : (ys : List Cell) → lowest_tag tag_in ys ≡ first_handler (tags ys)
 lowest_first [] = refl
 lowest_first (tag v b ∷ cs) = refl
 lowest_first (empty ∷ cs) = lowest_first cs
@@ -112,38 +113,38 @@ both_true : (a b : Bool) → (a && b) ≡ true → (a ≡ true) × (b ≡ true)
 both_true true b e = (refl, e)
 both_true false b e = absurd cc
 
-none_tagged : (cs : List Cell) → no_tags cs ≡ true → tags cs ≡ []
+none_tagged : (cs : List Cell) → no_tags tag_in cs ≡ true → tags cs ≡ []
 none_tagged [] e = refl
-none_tagged (c ∷ cs) e = let p : (not (is_tag c) ≡ true) × (no_tags cs ≡ true) = both_true _ _ e in tags_untagged c cs (not_true _ p.0) ∙ none_tagged cs p.1
+none_tagged (c ∷ cs) e = let p : (not (is_tag tag_in c) ≡ true) × (no_tags tag_in cs ≡ true) = both_true _ _ e in tags_untagged c cs (not_true _ p.0) ∙ none_tagged cs p.1
 
 replicated : (n : ℕ) → tags (replicate n empty) ≡ []
 replicated zero = refl
 replicated (suc n) = replicated n
 
-dropped_tags : (n : ℕ) (cs : List Cell) → no_tags (take n cs) ≡ true → tags (drop n cs) ≡ tags cs
+dropped_tags : (n : ℕ) (cs : List Cell) → no_tags tag_in (take n cs) ≡ true → tags (drop n cs) ≡ tags cs
 dropped_tags zero cs e = refl
 dropped_tags (suc n) [] e = refl
-dropped_tags (suc n) (c ∷ cs) e = let p : (not (is_tag c) ≡ true) × (no_tags (take n cs) ≡ true) = both_true _ _ e in dropped_tags n cs p.1 ∙ sym (tags_untagged c cs (not_true _ p.0))
+dropped_tags (suc n) (c ∷ cs) e = let p : (not (is_tag tag_in c) ≡ true) × (no_tags tag_in (take n cs) ≡ true) = both_true _ _ e in dropped_tags n cs p.1 ∙ sym (tags_untagged c cs (not_true _ p.0))
 
 module _ (spots : Spots) (sizes : List (ℕ × ℕ)) where
-  put_same : (ys : List Cell) (i : ℕ) (c : Cell) → is_tag c ≡ false → not (is_tag (Framed.or_empty spots sizes (slice_get ys i))) ≡ true → tags (with_slot i c ys) ≡ tags ys
+  put_same : (ys : List Cell) (i : ℕ) (c : Cell) → is_tag tag_in c ≡ false → not (is_tag tag_in (Framed.or_empty spots sizes (slice_get ys i))) ≡ true → tags (with_slot i c ys) ≡ tags ys
   put_same [] i c e f = refl
   put_same (d ∷ ds) zero c e f = tags_untagged c ds e ∙ sym (tags_untagged d ds (not_true _ f))
   put_same (d ∷ ds) (suc i) c e f = tags_behind d (with_slot i c ds) ds (put_same ds i c e f)
 
-  tag_put : (ys : List Cell) (i : ℕ) (h : Handler) → i < length ys → no_tags (take (suc i) ys) ≡ true → tags (with_slot i (tag h.tag h.landing) ys) ≡ h ∷ tags ys
+  tag_put : (ys : List Cell) (i : ℕ) (h : Handler) → i < length ys → no_tags tag_in (take (suc i) ys) ≡ true → tags (with_slot i (tag h.tag h.landing) ys) ≡ h ∷ tags ys
   tag_put [] i h l e = absurd (omega (arith, l))
   tag_put (d ∷ ds) zero h l e = ap (λ z. h ∷ z) (sym (tags_untagged d ds (not_true _ (both_true _ _ e).0)))
-  tag_put (d ∷ ds) (suc i) h l e = let p : (not (is_tag d) ≡ true) × (no_tags (take (suc i) ds) ≡ true) = both_true _ _ e in
+  tag_put (d ∷ ds) (suc i) h l e = let p : (not (is_tag tag_in d) ≡ true) × (no_tags tag_in (take (suc i) ds) ≡ true) = both_true _ _ e in
       tags_untagged d (with_slot i (tag h.tag h.landing) ds) (not_true _ p.0) ∙ tag_put ds i h (omega (arith, l)) p.1 ∙ ap (λ z. h ∷ z) (sym (tags_untagged d ds (not_true _ p.0)))
 
-  tag_taken : (ys : List Cell) (i v : ℕ) → is_tag_of v (Framed.or_empty spots sizes (slice_get ys i)) ≡ true → no_tags (take i ys) ≡ true → (h : Handler) × (tags ys ≡ h ∷ tags (with_slot i killed ys))
+  tag_taken : (ys : List Cell) (i v : ℕ) → is_tag_of v (Framed.or_empty spots sizes (slice_get ys i)) ≡ true → no_tags tag_in (take i ys) ≡ true → (h : Handler) × (tags ys ≡ h ∷ tags (with_slot i killed ys))
   tag_taken [] i v e f = absurd cc
   tag_taken (tag w b ∷ ds) zero v e f = (record { tag = w; landing = b }, refl)
   tag_taken (empty ∷ ds) zero v e f = absurd cc
   tag_taken (killed ∷ ds) zero v e f = absurd cc
   tag_taken (own w h ∷ ds) zero v e f = absurd cc
-  tag_taken (d ∷ ds) (suc i) v e f = let p : (not (is_tag d) ≡ true) × (no_tags (take i ds) ≡ true) = both_true _ _ f in
+  tag_taken (d ∷ ds) (suc i) v e f = let p : (not (is_tag tag_in d) ≡ true) × (no_tags tag_in (take i ds) ≡ true) = both_true _ _ f in
       let r : (h : Handler) × (tags ds ≡ h ∷ tags (with_slot i killed ds)) = tag_taken ds i v e p.1 in
       (r.0, tags_untagged d ds (not_true _ p.0) ∙ r.1 ∙ ap (λ z. r.0 ∷ z) (sym (tags_untagged d (with_slot i killed ds) (not_true _ p.0))))
 
@@ -162,15 +163,15 @@ module _ (spots : Spots) (sizes : List (ℕ × ℕ)) where
   with_kept st u None hs h e = absurd (none_is u e)
   with_kept st u (Some ys) hs h e = ap open_tags (sym (some_is _ u e)) ∙ h ys refl
 
-  slot_put : (i : Option ℕ) (c : Cell) (ys zs : List Cell) → is_tag c ≡ false → Framed.put_slot spots sizes i c ys ≡ Some zs → tags zs ≡ tags ys
+  slot_put : (i : Option ℕ) (c : Cell) (ys zs : List Cell) → is_tag tag_in c ≡ false → Framed.put_slot spots sizes i c ys ≡ Some zs → tags zs ≡ tags ys
   slot_put None c ys zs e f = absurd (none_is zs f)
-  slot_put (Some i) c ys zs e f = let p : (not (is_tag (Framed.or_empty spots sizes (slice_get ys i))) ≡ true) × (with_slot i c ys ≡ zs) = only_some _ _ zs f in ap tags (sym p.1) ∙ put_same ys i c e p.0
+  slot_put (Some i) c ys zs e f = let p : (not (is_tag tag_in (Framed.or_empty spots sizes (slice_get ys i))) ≡ true) × (with_slot i c ys ≡ zs) = only_some _ _ zs f in ap tags (sym p.1) ∙ put_same ys i c e p.0
 
-  slot_written : (f : Option (List Cell)) (n : ℕ) (c : Cell) (st u : Stack) → f ≡ st.frame → is_tag c ≡ false → Framed.in_frame f (λ ys. Framed.with_frame st (Framed.put_slot spots sizes (Framed.index_of spots sizes n ys) c ys)) ≡ Some u → open_tags u ≡ open_tags st
+  slot_written : (f : Option (List Cell)) (n : ℕ) (c : Cell) (st u : Stack) → f ≡ st.frame → is_tag tag_in c ≡ false → Framed.in_frame f (λ ys. Framed.with_frame st (Framed.put_slot spots sizes (Framed.index_of spots sizes n ys) c ys)) ≡ Some u → open_tags u ≡ open_tags st
   slot_written None n c st u p e h = absurd (none_is u h)
   slot_written (Some ys) n c st u p e h = with_kept st u _ (open_tags st) (λ zs q. slot_put (Framed.index_of spots sizes n ys) c ys zs e q ∙ ap frame_tags p) h
 
-  stack_write : (w : Bool) (c : Cell) (p : Option Spot) (st u : Stack) → is_tag c ≡ false → Framed.write_in spots sizes w c p st ≡ Some u → open_tags u ≡ open_tags st
+  stack_write : (w : Bool) (c : Cell) (p : Option Spot) (st u : Stack) → is_tag tag_in c ≡ false → Framed.write_in spots sizes w c p st ≡ Some u → open_tags u ≡ open_tags st
   stack_write w c None st u t e = absurd (none_is u e)
   stack_write w c (Some (x_reg n)) st u t e = ap open_tags (sym (some_is _ u e))
   stack_write true c (Some (y_slot n)) st u t e = absurd (none_is u e)
@@ -194,7 +195,7 @@ module _ (spots : Spots) (sizes : List (ℕ × ℕ)) where
     where
       at_index : (x : Option ℕ) → ((i : ℕ) → x ≡ Some i → i < length ys) → Framed.open_slot spots sizes h x ys ≡ Some zs → tags zs ≡ h ∷ tags ys
       at_index None l e = absurd (none_is zs e)
-      at_index (Some i) l e = let p : (no_tags (take (suc i) ys) ≡ true) × (with_slot i (tag h.tag h.landing) ys ≡ zs) = only_some _ _ zs e in ap tags (sym p.1) ∙ tag_put ys i h (l i refl) p.0
+      at_index (Some i) l e = let p : (no_tags tag_in (take (suc i) ys) ≡ true) × (with_slot i (tag h.tag h.landing) ys ≡ zs) = only_some _ _ zs e in ap tags (sym p.1) ∙ tag_put ys i h (l i refl) p.0
 
   stack_open : (h : Handler) (p : Option Spot) (st u : Stack) → Framed.open_in spots sizes h p st ≡ Some u → open_tags u ≡ h ∷ open_tags st
   stack_open h None st u e = absurd (none_is u e)
@@ -207,8 +208,8 @@ module _ (spots : Spots) (sizes : List (ℕ × ℕ)) where
 
   slot_closed : (v : ℕ) (x : Option ℕ) (ys zs : List Cell) → Framed.close_slot spots sizes v x ys ≡ Some zs → (h : Handler) × (tags ys ≡ h ∷ tags zs)
   slot_closed v None ys zs e = absurd (none_is zs e)
-  slot_closed v (Some i) ys zs e = let p : ((is_tag_of v (Framed.or_empty spots sizes (slice_get ys i)) && no_tags (take i ys)) ≡ true) × (with_slot i killed ys ≡ zs) = only_some _ _ zs e in
-      let q : (is_tag_of v (Framed.or_empty spots sizes (slice_get ys i)) ≡ true) × (no_tags (take i ys) ≡ true) = both_true _ _ p.0 in
+  slot_closed v (Some i) ys zs e = let p : ((is_tag_of v (Framed.or_empty spots sizes (slice_get ys i)) && no_tags tag_in (take i ys)) ≡ true) × (with_slot i killed ys ≡ zs) = only_some _ _ zs e in
+      let q : (is_tag_of v (Framed.or_empty spots sizes (slice_get ys i)) ≡ true) × (no_tags tag_in (take i ys) ≡ true) = both_true _ _ p.0 in
       let r : (h : Handler) × (tags ys ≡ h ∷ tags (with_slot i killed ys)) = tag_taken ys i v q.0 q.1 in
       (r.0, r.1 ∙ ap (λ z. r.0 ∷ tags z) p.1)
 
@@ -233,14 +234,14 @@ module _ (spots : Spots) (sizes : List (ℕ × ℕ)) where
   allocated None n st u p e = ap open_tags (sym (some_is _ u e)) ∙ replicated n ∙ ap frame_tags p
   allocated (Some ys) n st u p e = absurd (none_is u e)
 
-  deallocated : (f : Option (List Cell)) (n : ℕ) (st u : Stack) → f ≡ st.frame → Framed.in_frame f (λ ys. only_if (eqb (length ys) n && no_tags ys) (record st { frame = None })) ≡ Some u → open_tags u ≡ open_tags st
+  deallocated : (f : Option (List Cell)) (n : ℕ) (st u : Stack) → f ≡ st.frame → Framed.in_frame f (λ ys. only_if (eqb (length ys) n && no_tags tag_in ys) (record st { frame = None })) ≡ Some u → open_tags u ≡ open_tags st
   deallocated None n st u p e = absurd (none_is u e)
-  deallocated (Some ys) n st u p e = let q : ((eqb (length ys) n && no_tags ys) ≡ true) × (record st { frame = None } ≡ u) = only_some _ _ u e in
+  deallocated (Some ys) n st u p e = let q : ((eqb (length ys) n && no_tags tag_in ys) ≡ true) × (record st { frame = None } ≡ u) = only_some _ _ u e in
       ap open_tags (sym q.1) ∙ sym (none_tagged ys (both_true _ _ q.0).1) ∙ ap frame_tags p
 
-  trimmed : (f : Option (List Cell)) (n : ℕ) (st u : Stack) → f ≡ st.frame → Framed.in_frame f (λ ys. only_if (leb n (length ys) && no_tags (take n ys)) (record st { frame = Some (drop n ys) })) ≡ Some u → open_tags u ≡ open_tags st
+  trimmed : (f : Option (List Cell)) (n : ℕ) (st u : Stack) → f ≡ st.frame → Framed.in_frame f (λ ys. only_if (leb n (length ys) && no_tags tag_in (take n ys)) (record st { frame = Some (drop n ys) })) ≡ Some u → open_tags u ≡ open_tags st
   trimmed None n st u p e = absurd (none_is u e)
-  trimmed (Some ys) n st u p e = let q : ((leb n (length ys) && no_tags (take n ys)) ≡ true) × (record st { frame = Some (drop n ys) } ≡ u) = only_some _ _ u e in
+  trimmed (Some ys) n st u p e = let q : ((leb n (length ys) && no_tags tag_in (take n ys)) ≡ true) × (record st { frame = Some (drop n ys) } ≡ u) = only_some _ _ u e in
       ap open_tags (sym q.1) ∙ dropped_tags n ys (both_true _ _ q.0).1 ∙ ap frame_tags p
 
   stack_act : (a : FrameAction) (st u : Stack) → Framed.acts_on spots sizes a st ≡ Some u → open_tags u ≡ open_tags st
@@ -253,7 +254,7 @@ module _ (spots : Spots) (sizes : List (ℕ × ℕ)) where
   acts_in true a st u e = absurd (none_is u e)
   acts_in false a st u e = stack_act a st u e
 
-  lowest_handler : (f : Option (List Cell)) → elim f [ None ↦ None | Some ys ↦ lowest_tag ys ] ≡ first_handler (frame_tags f)
+  lowest_handler : (f : Option (List Cell)) → elim f [ None ↦ None | Some ys ↦ lowest_tag tag_in ys ] ≡ first_handler (frame_tags f)
   lowest_handler None = refl
   lowest_handler (Some ys) = lowest_first ys
 

@@ -13,7 +13,7 @@ use Rattle.ssa_form.specs.Ssa as Ssa
 use Rattle.ssa_form.specs.Ssa.{Op, Set, Last, br, succeeded, switch, ret, Block, Body, block_at}
 use Rattle.ssa_form.specs.Storage.{Held, unset, term, context, position, marker, Handler, ends_body, Storage, Frame, After, on, pick, up, over, Ended, done, unfinished, Around, go_on, when, if_some, kept}
 use Rattle.ssa_form.specs.SetFacts.{given_vars, is_peek, breaks_cycle}
-use Rattle.ssa_form.specs.Flow.{place, last_in, last_at, last_of, targets, goes, Reached, Passing, one, Effect, entering, Step, leads, succeeds, fails, raises}
+use Rattle.ssa_form.specs.Flow.{point, last_in, last_at, last_of, targets, goes, Reached, Passing, one, Effect, entering, Step, leads, succeeds, fails, raises}
 use Rattle.ssa_form.specs.WellFormed.{any_op, block_has, any_has, tests_nothing, lands_for, is_landing_for}
 use Rattle.ssa_form.specs.Operations.{held, forgotten}
 use Rattle.ssa_form.specs.SsaRun.{Raised, lands, ends_catch, truth_of, picked, choice_of, landed, put_each, phi_values, begins, entered_by, goes_by, switched, ended, returned, leave_on, leave_pick, raised_to, either_end, unless_looking, leave, block_does, blocks, first_handler}
@@ -139,10 +139,10 @@ module _ {S : Type 0} (o : Storage S) (around : Around) (here : Here) (lowers : 
         only_first true h = refl
         only_first false h = absurd cc
 
-    into : (m k : ℕ) (hs is' : List Handler) (e : Effect) → Reached b (place c.at k) hs → Step b (place c.at k) hs (place m 0) is' e → Reached b (place m 0) is'
-    into m k hs is' e (vs, w) p = (_, goes (place c.at k) (place m 0) vs hs is' e w p)
+    into : (m k : ℕ) (hs is' : List Handler) (e : Effect) → Reached b (point c.at k) hs → Step b (point c.at k) hs (point m 0) is' e → Reached b (point m 0) is'
+    into m k hs is' e (vs, w) p = (_, goes (point c.at k) (point m 0) vs hs is' e w p)
 
-    enters_next : (m k : ℕ) (hs : List Handler) (e : Effect) (g : Frame S) (u : State) → Reached b (place c.at k) hs → Step b (place c.at k) hs (place m 0) (open_in g.store) e → Fits g u → u.left ≤ c.state.left
+    enters_next : (m k : ℕ) (hs : List Handler) (e : Effect) (g : Frame S) (u : State) → Reached b (point c.at k) hs → Step b (point c.at k) hs (point m 0) (open_in g.store) e → Fits g u → u.left ≤ c.state.left
         → (IsFalse (any_op breaks_cycle x.chain) → AtMost (rank g u) (rank c.frame c.state))
         → (IsFalse (any_op breaks_cycle x.chain) → IsTrue (any_op is_peek x.chain) → Lower (rank g u) (rank c.frame c.state))
         → ((j : ℕ) → runs (suc j) c ≡ blocks o around here b j None c.at m g u) → Turn c
@@ -156,7 +156,7 @@ module _ {S : Type 0} (o : Storage S) (around : Around) (here : Here) (lowers : 
 
     -- by a last that tests nothing
 
-    last_there : last_at b (place c.at (length x.chain)) ≡ Some x.last
+    last_there : last_at b (point c.at (length x.chain)) ≡ Some x.last
     last_there = ap (λ y. last_in y (length x.chain)) there ∙ at_end (eqb (length x.chain) (length x.chain)) (eq-eqb _ _ refl)
       where
         at_end : (t : Bool) → t ≡ true → (if t then Some x.last else None) ≡ Some x.last
@@ -167,7 +167,7 @@ module _ {S : Type 0} (o : Storage S) (around : Around) (here : Here) (lowers : 
       leads_turn : (l : Last) (m : ℕ) → x.last ≡ l → IsTrue (tests_nothing (Some l)) → Contains (targets l) m → Through b c.at x there open_in x.chain c.frame c.state g u
           → ((j : ℕ) → runs (suc j) c ≡ blocks o around here b j None c.at m g u) → Turn c
       leads_turn l m e t i p h = enters_next m (length x.chain) (open_in g.store) _ g u (p.reached (subst (λ y. IsTrue (tests_nothing (Some y))) (sym e) t))
-          (leads (place c.at (length x.chain)) (open_in g.store) l m (last_there ∙ ap (λ y. Some y) e) i) p.fits p.low p.falls p.looks h
+          (leads (point c.at (length x.chain)) (open_in g.store) l m (last_there ∙ ap (λ y. Some y) e) i) p.fits p.low p.falls p.looks h
 
       goes_turn : (a t e : _) (v : Option Bool) → x.last ≡ br a t e → Through b c.at x there open_in x.chain c.frame c.state g u
           → ((j : ℕ) → runs (suc j) c ≡ goes_by o around here v (blocks o around here b j) c.at t e g u) → Turn c
@@ -211,10 +211,10 @@ module _ {S : Type 0} (o : Storage S) (around : Around) (here : Here) (lowers : 
       pick_turn : (v : Bool) (l : Last) → x.last ≡ l → (p : Chosen b c.at x there open_in x.chain c.frame c.state v g u) → Tested [] l p.tested
           → ((j : ℕ) → runs (suc j) c ≡ leave_pick o around here (blocks o around here b j) c.at l v g u) → Turn c
       pick_turn true l e p t h = enters_next t.holds p.at p.before _ g u p.reached
-          (subst (λ hs. Step b (place c.at p.at) p.before (place t.holds 0) hs (entering b c.at t.holds (given_vars p.by))) (sym p.handlers) (succeeds (place c.at p.at) p.before p.by t.var t.holds p.tested p.is_there (ap last_of there ∙ ap (λ y. Some y) (e ∙ t.last))))
+          (subst (λ hs. Step b (point c.at p.at) p.before (point t.holds 0) hs (entering b c.at t.holds (given_vars p.by))) (sym p.handlers) (succeeds (point c.at p.at) p.before p.by t.var t.holds p.tested p.is_there (ap last_of there ∙ ap (λ y. Some y) (e ∙ t.last))))
           p.fits p.low p.falls p.looks (λ j. h j ∙ ap (λ y. leave_pick o around here (blocks o around here b j) c.at y true g u) t.last)
       pick_turn false l e p t h = enters_next p.tested p.at p.before _ g u p.reached
-          (subst (λ hs. Step b (place c.at p.at) p.before (place p.tested 0) hs (entering b c.at p.tested [])) (sym p.handlers) (fails (place c.at p.at) p.before p.by p.tested p.is_there (p.starts refl)))
+          (subst (λ hs. Step b (point c.at p.at) p.before (point p.tested 0) hs (entering b c.at p.tested [])) (sym p.handlers) (fails (point c.at p.at) p.before p.by p.tested p.is_there (p.starts refl)))
           p.fits p.low p.falls p.looks (λ j. h j ∙ ap (λ y. leave_pick o around here (blocks o around here b j) c.at y false g u) t.last)
 
   -- A raise.
@@ -247,13 +247,13 @@ module _ {S : Type 0} (o : Storage S) (around : Around) (here : Here) (lowers : 
           looks = λ y z. absurd (true_no _ landing_breaks z);
         })
       where
-        reached : Reached b (place c.at p.at) (h ∷ is')
-        reached = subst (Reached b (place c.at p.at)) e p.reached
+        reached : Reached b (point c.at p.at) (h ∷ is')
+        reached = subst (Reached b (point c.at p.at)) e p.reached
 
-        raised : Step b (place c.at p.at) (h ∷ is') (place h.landing 0) is' (entering b c.at h.landing [])
-        raised = raises (place c.at p.at) h is' p.by p.mode p.is_there p.may
+        raised : Step b (point c.at p.at) (h ∷ is') (point h.landing 0) is' (entering b c.at h.landing [])
+        raised = raises (point c.at p.at) h is' p.by p.mode p.is_there p.may
 
-        into_landing : Reached b (place h.landing 0) is'
+        into_landing : Reached b (point h.landing 0) is'
         into_landing = into c x there h.landing p.at (h ∷ is') is' (entering b c.at h.landing []) reached raised
 
         breaks_in : (y : Option Block) → IsTrue (is_landing_for h.tag y) → IsTrue (block_has breaks_cycle y)

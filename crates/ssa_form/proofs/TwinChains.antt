@@ -1,16 +1,18 @@
 -- Two runs of a chain whose variables are alike where the way has set them: they do the same.
 use Rattle.std.proofs.Common.{◌≡◌, ◌⊎◌, inl, inr, ⊎_elim, ℕ, zero, suc, ◌+◌, List, [], ◌∷◌, ◌++◌, length, Bool, true, false, not, ◌&&◌, ◌||◌, Option, Some, None, refl, sym, ap, subst, ◌∙◌, arith, eqb, IsTrue, IsFalse, if◌then◌else◌, slice_get}
 use Rattle.std.proofs.lemmas.Bool.{eqb-true, eq-eqb}
+use Rattle.erl_base.specs.Lists.{among}
 use Rattle.erl_term.specs.Term.{Term, Class}
 use Rattle.world_model.specs.World.{Message}
 use Rattle.world_model.specs.Run.{State, Outcome}
 use Rattle.step_machine.specs.Bodies.{Here}
 use Rattle.step_machine.specs.EntryBound.{Lowers}
+use Rattle.step_machine.specs.Frames.{MatchContext}
 use Rattle.ssa_form.specs.Ssa as Ssa
 use Rattle.ssa_form.specs.Ssa.{Arg, var, lit, Op, FrameAction, Set, Last, Block, Body, block_at, or_none}
-use Rattle.ssa_form.specs.Storage.{Held, term, Context, Handler, Frame, After, on, pick, up, over, Mode, tests, Around, go_on}
-use Rattle.ssa_form.specs.SetFacts.{arg_vars, dst_vars, given_vars, gives_nothing, is_try_start, among, all_among, none_among, names_handler, may_raise, is_tests}
-use Rattle.ssa_form.specs.Flow.{Place, place, set_from, set_in, set_at, last_at, after_op, setting, Way, goes, passes}
+use Rattle.ssa_form.specs.Storage.{Held, term, Handler, Frame, After, on, pick, up, over, Mode, tests, Around, go_on}
+use Rattle.ssa_form.specs.SetFacts.{arg_vars, dst_vars, given_vars, gives_nothing, is_try_start, all_among, none_among, names_handler, may_raise, is_tests}
+use Rattle.ssa_form.specs.Flow.{Point, point, set_from, set_in, set_at, last_at, after_op, setting, Way, goes, passes}
 use Rattle.ssa_form.specs.Liveness.{set_vars, end_vars, value_vars}
 use Rattle.ssa_form.specs.WellFormed.{WellFormed, tests_nothing, chain_tags, tags_in}
 use Rattle.ssa_form.specs.Operations.{held, all_held, does}
@@ -108,7 +110,7 @@ tag_in_blocks (Some z ∷ os) zero y v e h = among_left v (chain_tags z.chain) (
 tag_in_blocks (None ∷ os) (suc n) y v e h = tag_in_blocks os n y v e h
 tag_in_blocks (Some z ∷ os) (suc n) y v e h = among_right v (chain_tags z.chain) (tags_in os) (tag_in_blocks os n y v e h)
 
-pub dst_is_tag : (b : Body) (p : Place) (x : Set) (m : Mode) (v : ℕ) → set_at b p ≡ Some (x, m) → IsTrue (is_try_start x.op) → x.dst ≡ Some v → IsTrue (among v (tags_in b.blocks))
+pub dst_is_tag : (b : Body) (p : Point) (x : Set) (m : Mode) (v : ℕ) → set_at b p ≡ Some (x, m) → IsTrue (is_try_start x.op) → x.dst ≡ Some v → IsTrue (among v (tags_in b.blocks))
 dst_is_tag b p x m v e t d = let r : (y : Block) × (block_at b p.block ≡ Some y) × IsTrue (among v (chain_tags y.chain)) = tag_in_block (block_at b p.block) p.done x m v e t d in tag_in_blocks b.blocks p.block r.0 v r.1 r.2
 
 -- alike where the way has set them, tags aside
@@ -116,17 +118,17 @@ abbrev pub Alike : Body → List ℕ → (ℕ → Held) → (ℕ → Held) → T
 Alike b vs X Y = (v : ℕ) → IsTrue (among v vs) → IsFalse (among v (tags_in b.blocks)) → X v ≡ Y v
 
 module _ (around : Around) (here : Here) where
-  pub held_alike : (b : Body) (vs : List ℕ) (X Y : ℕ → Held) (c : List Context) (n : ℕ) (w : Option Message) (hs : List Handler) (a : Arg) → Alike b vs X Y → IsTrue (all_among (arg_vars (a ∷ [])) vs) → IsTrue (none_among (arg_vars (a ∷ [])) (tags_in b.blocks)) → held in_vars around here (fr X c n w hs) a ≡ held in_vars around here (fr Y c n w hs) a
+  pub held_alike : (b : Body) (vs : List ℕ) (X Y : ℕ → Held) (c : List MatchContext) (n : ℕ) (w : Option Message) (hs : List Handler) (a : Arg) → Alike b vs X Y → IsTrue (all_among (arg_vars (a ∷ [])) vs) → IsTrue (none_among (arg_vars (a ∷ [])) (tags_in b.blocks)) → held in_vars around here (fr X c n w hs) a ≡ held in_vars around here (fr Y c n w hs) a
   held_alike b vs X Y c n w hs (var v) h p q = h v (and_both _ _ p).0 (not_true _ (and_both _ _ q).0)
   held_alike b vs X Y c n w hs (lit t) h p q = refl
 
-  all_alike : (b : Body) (vs : List ℕ) (X Y : ℕ → Held) (c : List Context) (n : ℕ) (w : Option Message) (hs : List Handler) (as' : List Arg) → Alike b vs X Y → IsTrue (all_among (arg_vars as') vs) → IsTrue (none_among (arg_vars as') (tags_in b.blocks)) → all_held in_vars around here (fr X c n w hs) as' ≡ all_held in_vars around here (fr Y c n w hs) as'
+  all_alike : (b : Body) (vs : List ℕ) (X Y : ℕ → Held) (c : List MatchContext) (n : ℕ) (w : Option Message) (hs : List Handler) (as' : List Arg) → Alike b vs X Y → IsTrue (all_among (arg_vars as') vs) → IsTrue (none_among (arg_vars as') (tags_in b.blocks)) → all_held in_vars around here (fr X c n w hs) as' ≡ all_held in_vars around here (fr Y c n w hs) as'
   all_alike b vs X Y c n w hs [] h p q = refl
   all_alike b vs X Y c n w hs (var v ∷ as') h p q = λ i. h v (and_both _ _ p).0 (not_true _ (and_both _ _ q).0) i ∷ all_alike b vs X Y c n w hs as' h (and_both _ _ p).1 (and_both _ _ q).1 i
   all_alike b vs X Y c n w hs (lit t ∷ as') h p q = λ i. term t ∷ all_alike b vs X Y c n w hs as' h p q i
 
   -- what a set gives
-  given_alike : (b : Body) (p : Place) (x : Set) (m : Mode) (vs : List ℕ) (V W X Y : ℕ → Held) → set_at b p ≡ Some (x, m) → Alike b vs V W → Like V W x.dst (writes x.op) X Y → (IsTrue (writes x.op) → Wrote V W x.dst (writes x.op) X Y) → Alike b (given_vars x ++ vs) X Y
+  given_alike : (b : Body) (p : Point) (x : Set) (m : Mode) (vs : List ℕ) (V W X Y : ℕ → Held) → set_at b p ≡ Some (x, m) → Alike b vs V W → Like V W x.dst (writes x.op) X Y → (IsTrue (writes x.op) → Wrote V W x.dst (writes x.op) X Y) → Alike b (given_vars x ++ vs) X Y
   given_alike b p x m vs V W X Y e h like wrote v i t = ⊎_elim (λ j. given (gives_nothing x.op) (is_try_start x.op) refl refl j) (λ j. like v (h v j t)) (among_append v (given_vars x) vs i)
     where
       dst_only : (d : Option ℕ) → IsTrue (among v (dst_vars d)) → d ≡ Some v
@@ -143,18 +145,18 @@ module _ (around : Around) (here : Here) where
 -- The two runs of a chain end alike.
 
 module _ (b : Body) (n : ℕ) (x : Block) (there : block_at b n ≡ Some x) where
-  -- the place of the last, where it tests nothing
+  -- the point of the last, where it tests nothing
   abbrev pub Ends : (ℕ → Held) → (ℕ → Held) → List Handler → Type 0
-  Ends X Y hs = IsTrue (tests_nothing (Some x.last)) → (vs : List ℕ) × Way b (place n (length x.chain)) vs hs × Alike b vs X Y
+  Ends X Y hs = IsTrue (tests_nothing (Some x.last)) → (vs : List ℕ) × Way b (point n (length x.chain)) vs hs × Alike b vs X Y
 
   pub record Chose (v : Bool) (X Y : ℕ → Held) (hs : List Handler) : Type 0 where
     pub at : ℕ
     pub by : Set
     pub tested : ℕ
-    pub is_there : set_at b (place n at) ≡ Some (by, tests tested)
+    pub is_there : set_at b (point n at) ≡ Some (by, tests tested)
     pub before : List Handler
     pub vars : List ℕ
-    pub way : Way b (place n at) vars before
+    pub way : Way b (point n at) vars before
     pub handlers : hs ≡ picked_handlers v by.op by.dst tested before
     pub starts : v ≡ false → by.op ≡ Ssa.try_start → ⊥
     pub last : Tested [] x.last tested
@@ -164,23 +166,23 @@ module _ (b : Body) (n : ℕ) (x : Block) (there : block_at b n ≡ Some x) wher
     pub at : ℕ
     pub by : Set
     pub mode : Mode
-    pub is_there : set_at b (place n at) ≡ Some (by, mode)
+    pub is_there : set_at b (point n at) ≡ Some (by, mode)
     pub vars : List ℕ
-    pub way : Way b (place n at) vars hs
+    pub way : Way b (point n at) vars hs
     pub may : IsTrue (may_raise mode by.op)
     pub alike : Alike b vars X Y
 
   pub data Twins : After Vars → After Vars → Type 0 where
-    twin_on : (X Y : ℕ → Held) (c : List Context) (k : ℕ) (w : Option Message) (hs : List Handler) (s : State) → Ends X Y hs → Fits (fr X c k w hs) s → Twins (on (fr X c k w hs) s) (on (fr Y c k w hs) s)
-    twin_pick : (v : Bool) (X Y : ℕ → Held) (c : List Context) (k : ℕ) (w : Option Message) (hs : List Handler) (s : State) → Chose v X Y hs → Fits (fr X c k w hs) s → Twins (pick v (fr X c k w hs) s) (pick v (fr Y c k w hs) s)
-    twin_up : (q : Class) (r : Term) (X Y : ℕ → Held) (c : List Context) (k : ℕ) (w : Option Message) (hs : List Handler) (s : State) → Rose X Y hs → Twins (up q r (fr X c k w hs) s) (up q r (fr Y c k w hs) s)
+    twin_on : (X Y : ℕ → Held) (c : List MatchContext) (k : ℕ) (w : Option Message) (hs : List Handler) (s : State) → Ends X Y hs → Fits (fr X c k w hs) s → Twins (on (fr X c k w hs) s) (on (fr Y c k w hs) s)
+    twin_pick : (v : Bool) (X Y : ℕ → Held) (c : List MatchContext) (k : ℕ) (w : Option Message) (hs : List Handler) (s : State) → Chose v X Y hs → Fits (fr X c k w hs) s → Twins (pick v (fr X c k w hs) s) (pick v (fr Y c k w hs) s)
+    twin_up : (q : Class) (r : Term) (X Y : ℕ → Held) (c : List MatchContext) (k : ℕ) (w : Option Message) (hs : List Handler) (s : State) → Rose X Y hs → Twins (up q r (fr X c k w hs) s) (up q r (fr Y c k w hs) s)
     twin_over : (s : State) (q : Outcome Term) → Twins (over s q) (over s q)
     twin_bad : Twins After.bad After.bad
 
   -- where the rest of a chain begins
   pub record Standing (ys : List Set) (k : ℕ) (X Y : ℕ → Held) (hs : List Handler) : Type 0 where
     pub vars : List ℕ
-    pub way : Way b (place n k) vars hs
+    pub way : Way b (point n k) vars hs
     pub alike : Alike b vars X Y
 
   abbrev pub Stands : List Set → ℕ → (ℕ → Held) → (ℕ → Held) → List Handler → Type 0
@@ -189,13 +191,13 @@ module _ (b : Body) (n : ℕ) (x : Block) (there : block_at b n ≡ Some x) wher
 
   module _ (around : Around) (here : Here) (lowers : Lowers here.enter) (formed : WellFormed b) where
     -- what a set reads is alike
-    reads_alike : (y : Set) (m : Mode) (k : ℕ) (vs : List ℕ) (X Y : ℕ → Held) (c : List Context) (i : ℕ) (w : Option Message) (hs : List Handler) → set_at b (place n k) ≡ Some (y, m) → Way b (place n k) vs hs → Alike b vs X Y
+    reads_alike : (y : Set) (m : Mode) (k : ℕ) (vs : List ℕ) (X Y : ℕ → Held) (c : List MatchContext) (i : ℕ) (w : Option Message) (hs : List Handler) → set_at b (point n k) ≡ Some (y, m) → Way b (point n k) vs hs → Alike b vs X Y
         → IsFalse (names_handler y.op) → all_held in_vars around here (fr X c i w hs) y.args ≡ all_held in_vars around here (fr Y c i w hs) y.args
     reads_alike y m k vs X Y c i w hs e way h named = all_alike around here b vs X Y c i w hs y.args h
-        (subst (λ o. IsTrue (all_among (set_vars o) vs)) e (all_first (set_vars (set_at b (place n k))) (end_vars (last_at b (place n k))) vs (formed.available (place n k) vs hs way)))
-        (subst (λ z. IsTrue (none_among (if z then [] else arg_vars y.args) (tags_in b.blocks))) named (subst (λ o. IsTrue (none_among (value_vars o) (tags_in b.blocks))) e (none_first (value_vars (set_at b (place n k))) (end_vars (last_at b (place n k))) (tags_in b.blocks) (formed.values (place n k) hs (vs, way)))))
+        (subst (λ o. IsTrue (all_among (set_vars o) vs)) e (all_first (set_vars (set_at b (point n k))) (end_vars (last_at b (point n k))) vs (formed.available (point n k) vs hs way)))
+        (subst (λ z. IsTrue (none_among (if z then [] else arg_vars y.args) (tags_in b.blocks))) named (subst (λ o. IsTrue (none_among (value_vars o) (tags_in b.blocks))) e (none_first (value_vars (set_at b (point n k))) (end_vars (last_at b (point n k))) (tags_in b.blocks) (formed.values (point n k) hs (vs, way)))))
 
-    set_both : (y : Set) (m : Mode) (k : ℕ) (vs : List ℕ) (X Y : ℕ → Held) (c : List Context) (i : ℕ) (w : Option Message) (hs : List Handler) (s : State) → set_at b (place n k) ≡ Some (y, m) → Way b (place n k) vs hs → Alike b vs X Y
+    set_both : (y : Set) (m : Mode) (k : ℕ) (vs : List ℕ) (X Y : ℕ → Held) (c : List MatchContext) (i : ℕ) (w : Option Message) (hs : List Handler) (s : State) → set_at b (point n k) ≡ Some (y, m) → Way b (point n k) vs hs → Alike b vs X Y
         → Both X Y y.dst (writes y.op) (set_does in_vars around here m y (fr X c i w hs) s) (set_does in_vars around here m y (fr Y c i w hs) s)
     set_both y m k vs X Y c i w hs s e way h = by_acts y.before
       where
@@ -206,15 +208,15 @@ module _ (b : Body) (n : ℕ) (x : Block) (there : block_at b n ≡ Some x) wher
         by_acts [] = does_both around here X Y y.dst c i w hs s y.op y.args m _ _ (reads_alike y m k vs X Y c i w hs e way h)
         by_acts (a ∷ as') = both_bad
 
-    pub next_stands : (y : Set) (ys : List Set) (k : ℕ) (vs : List ℕ) (V W X Y : ℕ → Held) (hs is' : List Handler) → From b n x there (y ∷ ys) k → Way b (place n k) vs hs → Alike b vs V W → is' ≡ after_op y.op hs
+    pub next_stands : (y : Set) (ys : List Set) (k : ℕ) (vs : List ℕ) (V W X Y : ℕ → Held) (hs is' : List Handler) → From b n x there (y ∷ ys) k → Way b (point n k) vs hs → Alike b vs V W → is' ≡ after_op y.op hs
         → Like V W y.dst (writes y.op) X Y → (IsTrue (writes y.op) → Wrote V W y.dst (writes y.op) X Y) → Stands ys (suc k) X Y is'
     next_stands y ys k vs V W X Y hs is' from way h e like wrote = by_rest ys from
       where
         stood : (zs : List Set) (ks : List Set) → From b n x there (y ∷ zs) k → IsFalse (is_tests (mode_of y.dst zs x.before x.last)) → Standing ks (suc k) X Y is'
         stood zs ks from t = record {
           vars = given_vars y ++ vs;
-          way = subst (λ js. Way b (place n (suc k)) (given_vars y ++ vs) js) (sym e) (goes (place n k) (place n (suc k)) vs hs (after_op y.op hs) (setting (given_vars y)) way (passes (place n k) hs y (mode_of y.dst zs x.before x.last) (head_there b n x there y zs k from) t));
-          alike = given_alike around here b (place n k) y (mode_of y.dst zs x.before x.last) vs V W X Y (head_there b n x there y zs k from) h like wrote;
+          way = subst (λ js. Way b (point n (suc k)) (given_vars y ++ vs) js) (sym e) (goes (point n k) (point n (suc k)) vs hs (after_op y.op hs) (setting (given_vars y)) way (passes (point n k) hs y (mode_of y.dst zs x.before x.last) (head_there b n x there y zs k from) t));
+          alike = given_alike around here b (point n k) y (mode_of y.dst zs x.before x.last) vs V W X Y (head_there b n x there y zs k from) h like wrote;
         }
 
         by_rest : (zs : List Set) → From b n x there (y ∷ zs) k → Stands zs (suc k) X Y is'
@@ -222,10 +224,10 @@ module _ (b : Body) (n : ℕ) (x : Block) (there : block_at b n ≡ Some x) wher
         by_rest (z ∷ zs) from = stood (z ∷ zs) (z ∷ zs) from refl
 
     abbrev pub Continues : List Set → ℕ → Type 0
-    Continues ys k = (X Y : ℕ → Held) (c : List Context) (i : ℕ) (w : Option Message) (hs : List Handler) (s : State) → Stands ys k X Y hs → Fits (fr X c i w hs) s
+    Continues ys k = (X Y : ℕ → Held) (c : List MatchContext) (i : ℕ) (w : Option Message) (hs : List Handler) (s : State) → Stands ys k X Y hs → Fits (fr X c i w hs) s
         → Twins (chain_does in_vars around here x.before x.last ys (fr X c i w hs) s) (chain_does in_vars around here x.before x.last ys (fr Y c i w hs) s)
 
-    set_twins : (y : Set) (ys : List Set) (k : ℕ) (X Y : ℕ → Held) (c : List Context) (i : ℕ) (w : Option Message) (hs : List Handler) (s : State) (a z : After Vars) → From b n x there (y ∷ ys) k → Standing (y ∷ ys) k X Y hs → Continues ys (suc k)
+    set_twins : (y : Set) (ys : List Set) (k : ℕ) (X Y : ℕ → Held) (c : List MatchContext) (i : ℕ) (w : Option Message) (hs : List Handler) (s : State) (a z : After Vars) → From b n x there (y ∷ ys) k → Standing (y ∷ ys) k X Y hs → Continues ys (suc k)
         → Both X Y y.dst (writes y.op) a z → Steps (λ st. st.handlers) y.op (mode_of y.dst ys x.before x.last) y.dst (fr X c i w hs) s a
         → Twins (go_on a (chain_does in_vars around here x.before x.last ys)) (go_on z (chain_does in_vars around here x.before x.last ys))
     set_twins y ys k X Y c i w hs s _ _ from st ih (both_on X1 Y1 c1 i1 w1 hs1 s1 like wrote) p = ih X1 Y1 c1 i1 w1 hs1 s1 (next_stands y ys k st.vars X Y X1 Y1 hs hs1 from st.way st.alike p.handlers like wrote) p.fits
@@ -244,7 +246,7 @@ module _ (b : Body) (n : ℕ) (x : Block) (there : block_at b n ≡ Some x) wher
     }) p.fits
       where
         chosen : (u : Bool) → (IsTrue (writes y.op) → IsTrue u → Wrote X Y y.dst (writes y.op) X1 Y1) → Alike b (if u then given_vars y ++ st.vars else st.vars) X1 Y1
-        chosen true wrote = given_alike around here b (place n k) y (mode_of y.dst ys x.before x.last) st.vars X Y X1 Y1 (head_there b n x there y ys k from) st.alike like (λ t. wrote t refl)
+        chosen true wrote = given_alike around here b (point n k) y (mode_of y.dst ys x.before x.last) st.vars X Y X1 Y1 (head_there b n x there y ys k from) st.alike like (λ t. wrote t refl)
         chosen false wrote = λ v j t. like v (st.alike v j t)
     set_twins y ys k X Y c i w hs s _ _ from st ih (both_up q r X1 Y1 c1 i1 w1 hs1 s1 like) p = twin_up q r X1 Y1 c1 i1 w1 hs1 s1 (record {
       at = k;
@@ -252,16 +254,16 @@ module _ (b : Body) (n : ℕ) (x : Block) (there : block_at b n ≡ Some x) wher
       mode = mode_of y.dst ys x.before x.last;
       is_there = head_there b n x there y ys k from;
       vars = st.vars;
-      way = subst (λ js. Way b (place n k) st.vars js) (sym p.handlers) st.way;
+      way = subst (λ js. Way b (point n k) st.vars js) (sym p.handlers) st.way;
       may = p.may;
       alike = λ v j t. like v (st.alike v j t);
     })
     set_twins y ys k X Y c i w hs s _ _ from st ih (both_over s1 q) p = twin_over s1 q
     set_twins y ys k X Y c i w hs s _ _ from st ih both_bad p = twin_bad
 
-    ended_twins : (as' : List FrameAction) (k : ℕ) (X Y : ℕ → Held) (c : List Context) (i : ℕ) (w : Option Message) (hs : List Handler) (s : State) → From b n x there [] k → Stands [] k X Y hs → Fits (fr X c i w hs) s
+    ended_twins : (as' : List FrameAction) (k : ℕ) (X Y : ℕ → Held) (c : List MatchContext) (i : ℕ) (w : Option Message) (hs : List Handler) (s : State) → From b n x there [] k → Stands [] k X Y hs → Fits (fr X c i w hs) s
         → Twins (acts_do in_vars around here as' (fr X c i w hs) s) (acts_do in_vars around here as' (fr Y c i w hs) s)
-    ended_twins [] k X Y c i w hs s from st fits = twin_on X Y c i w hs s (λ t. let z : Standing [] k X Y hs = st t in (z.vars, subst (λ j. Way b (place n j) z.vars hs) (let l : k + 0 ≡ length x.chain = from.long in omega (arith, l)) z.way, z.alike)) fits
+    ended_twins [] k X Y c i w hs s from st fits = twin_on X Y c i w hs s (λ t. let z : Standing [] k X Y hs = st t in (z.vars, subst (λ j. Way b (point n j) z.vars hs) (let l : k + 0 ≡ length x.chain = from.long in omega (arith, l)) z.way, z.alike)) fits
     ended_twins (a ∷ as') k X Y c i w hs s from st fits = twin_bad
 
     pub chain_twins : (ys : List Set) (k : ℕ) → From b n x there ys k → Continues ys k

@@ -1,6 +1,7 @@
 -- Two runs of a well-formed body whose variables are alike where the way has set them: they end alike.
 use Rattle.std.proofs.Common.{◌≡◌, ⊎_elim, ℕ, zero, suc, List, [], ◌∷◌, ◌++◌, length, append_assoc, Contains, Bool, true, false, ◌&&◌, ◌||◌, Option, Some, None, refl, sym, ap, subst, ◌∙◌, eqb, IsTrue, IsFalse, if◌then◌else◌, codes}
 use Rattle.std.proofs.lemmas.Bool.{eq-eqb}
+use Rattle.erl_base.specs.Lists.{among}
 use Rattle.erl_term.specs.Term as T
 use Rattle.erl_term.specs.Term.{Term, Class}
 use Rattle.erl_term.specs.Terms.{class_word, tagged}
@@ -11,10 +12,11 @@ use Rattle.world_model.specs.Meaning.{single}
 use Rattle.world_model.specs.Requests.{exit_of}
 use Rattle.step_machine.specs.Bodies.{Here}
 use Rattle.step_machine.specs.EntryBound.{Lowers}
+use Rattle.step_machine.specs.Frames.{MatchContext}
 use Rattle.ssa_form.specs.Ssa.{Arg, Set, Last, br, succeeded, switch, ret, Phi, Block, Body, block_at}
-use Rattle.ssa_form.specs.Storage.{Held, unset, term, context, position, marker, Context, Handler, Frame, After, over, Ended, Around, go_on, when, if_some}
-use Rattle.ssa_form.specs.SetFacts.{arg_vars, given_vars, among, all_among, none_among}
-use Rattle.ssa_form.specs.Flow.{place, set_at, last_in, last_at, last_of, targets, phis_at, phi_vars, edge_vars, phi_reads, after_op, entering, Way, goes, begins, Step, leads, succeeds, fails, raises}
+use Rattle.ssa_form.specs.Storage.{Held, unset, term, context, position, marker, Handler, Frame, After, over, Ended, Around, go_on, when, if_some}
+use Rattle.ssa_form.specs.SetFacts.{arg_vars, given_vars, all_among, none_among}
+use Rattle.ssa_form.specs.Flow.{point, set_at, last_in, last_at, last_of, targets, phis_at, phi_vars, edge_vars, phi_reads, after_op, entering, Way, goes, begins, Step, leads, succeeds, fails, raises}
 use Rattle.ssa_form.specs.Liveness.{set_vars, end_vars, last_vars, value_vars}
 use Rattle.ssa_form.specs.WellFormed.{WellFormed, tests_nothing, tags_in}
 use Rattle.ssa_form.specs.Operations.{held, put, follows}
@@ -38,7 +40,7 @@ Opened (Some e) hs is' = (h : Handler) × (hs ≡ h ∷ is')
 -- A value is put into both.
 
 module _ (around : Around) (here : Here) (P : After Vars → After Vars → Type 0) where
-  put_then : (d : Option ℕ) (h : Held) (X Y : ℕ → Held) (c : List Context) (i : ℕ) (w : Option Message) (hs : List Handler) (s : State) (k z : Frame Vars → State → After Vars)
+  put_then : (d : Option ℕ) (h : Held) (X Y : ℕ → Held) (c : List MatchContext) (i : ℕ) (w : Option Message) (hs : List Handler) (s : State) (k z : Frame Vars → State → After Vars)
       → ((X1 Y1 : ℕ → Held) → ((v : ℕ) → X v ≡ Y v → X1 v ≡ Y1 v) → ((v : ℕ) → d ≡ Some v → X1 v ≡ Y1 v) → P (k (fr X1 c i w hs) s) (z (fr Y1 c i w hs) s))
       → P (go_on (put in_vars around here d h (fr X c i w hs) s) k) (go_on (put in_vars around here d h (fr Y c i w hs) s) z)
   put_then None h X Y c i w hs s k z f = f X Y (λ v e. e) (λ v e. absurd (none_is v e))
@@ -51,7 +53,7 @@ module _ (around : Around) (here : Here) (P : After Vars → After Vars → Type
       written v true e = refl
       written v false e = absurd cc
 
-  caught_then : (d : Option ℕ) (q : Class) (r : Term) (X Y : ℕ → Held) (c : List Context) (i : ℕ) (w : Option Message) (hs : List Handler) (s : State) (k z : Frame Vars → State → After Vars)
+  caught_then : (d : Option ℕ) (q : Class) (r : Term) (X Y : ℕ → Held) (c : List MatchContext) (i : ℕ) (w : Option Message) (hs : List Handler) (s : State) (k z : Frame Vars → State → After Vars)
       → ((u : State) (o : Outcome Term) → P (over u o) (over u o))
       → ((u : State) (X1 Y1 : ℕ → Held) → ((v : ℕ) → X v ≡ Y v → X1 v ≡ Y1 v) → ((v : ℕ) → d ≡ Some v → X1 v ≡ Y1 v) → P (k (fr X1 c i w hs) u) (z (fr Y1 c i w hs) u))
       → P (go_on (follows in_vars around here d (fr X c i w hs) (exit_of q r s)) k) (go_on (follows in_vars around here d (fr Y c i w hs) (exit_of q r s)) z)
@@ -64,7 +66,7 @@ module _ (around : Around) (here : Here) (P : After Vars → After Vars → Type
       asked_for (t ∷ ts) = put_then d _ X Y c i w hs (answered World.trace t ts s) k z (f (answered World.trace t ts s))
 
   -- the first handler closes
-  closed_then : (v : ℕ) (X Y : ℕ → Held) (c : List Context) (i : ℕ) (w : Option Message) (h : Handler) (hs : List Handler) (k z : Frame Vars → After Vars) → P After.bad After.bad → P (k (fr X c i None hs)) (z (fr Y c i None hs))
+  closed_then : (v : ℕ) (X Y : ℕ → Held) (c : List MatchContext) (i : ℕ) (w : Option Message) (h : Handler) (hs : List Handler) (k z : Frame Vars → After Vars) → P After.bad After.bad → P (k (fr X c i None hs)) (z (fr Y c i None hs))
       → P (closed in_vars around here v (fr X c i w (h ∷ hs)) k) (closed in_vars around here v (fr Y c i w (h ∷ hs)) z)
   closed_then v X Y c i (Some m) h hs k z b p = b
   closed_then v X Y c i None h hs k z b p = by_tag (eqb h.tag v)
@@ -80,17 +82,17 @@ module _ (b : Body) (around : Around) (here : Here) (lowers : Lowers here.enter)
     Two a z = Twins b n x there a z
 
     -- a set is done that wrote its variable
-    wrote_stands : (y : Set) (ys : List Set) (k : ℕ) (vs : List ℕ) (V W X Y : ℕ → Held) (hs : List Handler) → From b n x there (y ∷ ys) k → Way b (place n k) vs hs → Alike b vs V W → after_op y.op hs ≡ hs
+    wrote_stands : (y : Set) (ys : List Set) (k : ℕ) (vs : List ℕ) (V W X Y : ℕ → Held) (hs : List Handler) → From b n x there (y ∷ ys) k → Way b (point n k) vs hs → Alike b vs V W → after_op y.op hs ≡ hs
         → ((v : ℕ) → V v ≡ W v → X v ≡ Y v) → ((v : ℕ) → y.dst ≡ Some v → X v ≡ Y v) → Stands b n x there ys (suc k) X Y hs
     wrote_stands y ys k vs V W X Y hs from way h e like wrote = next_stands b n x there around here lowers formed y ys k vs V W X Y hs hs from way h (sym e) like (λ t. wrote)
 
     goes_on : (ys : List Set) (k : ℕ) → From b n x there ys k → Continues b n x there around here lowers formed ys k
     goes_on ys k from = chain_twins b n x there around here lowers formed ys k from
 
-    no_window : (X : ℕ → Held) (c : List Context) (i : ℕ) (hs : List Handler) (s : State) → Fits (fr X c i None hs) s
+    no_window : (X : ℕ → Held) (c : List MatchContext) (i : ℕ) (hs : List Handler) (s : State) → Fits (fr X c i None hs) s
     no_window X c i hs s m p = let z : None ≡ Some m = p in cc
 
-    catch_twins : (y : Set) (ys : List Set) (e : Raised) (X Y : ℕ → Held) (c : List Context) (i : ℕ) (w : Option Message) (h : Handler) (hs : List Handler) (s : State) (vs : List ℕ) → From b n x there (y ∷ ys) 0 → Way b (place n 0) vs hs → Alike b vs X Y
+    catch_twins : (y : Set) (ys : List Set) (e : Raised) (X Y : ℕ → Held) (c : List MatchContext) (i : ℕ) (w : Option Message) (h : Handler) (hs : List Handler) (s : State) (vs : List ℕ) → From b n x there (y ∷ ys) 0 → Way b (point n 0) vs hs → Alike b vs X Y
         → Two (catches in_vars around here x.before x.last (y ∷ ys) e (fr X c i w (h ∷ hs)) s) (catches in_vars around here x.before x.last (y ∷ ys) e (fr Y c i w (h ∷ hs)) s)
     catch_twins y ys e X Y c i w h hs s vs from way alike = by_end (ends_catch e.tag y) refl
       where
@@ -102,7 +104,7 @@ module _ (b : Body) (around : Around) (here : Here) (lowers : Lowers here.enter)
             (caught_then around here Two y.dst e.class e.reason X Y c i None hs s (chain_does in_vars around here x.before x.last ys) (chain_does in_vars around here x.before x.last ys) (λ u o. twin_over u o) (λ u X1 Y1 like wrote.
             goes_on ys 1 (tail_from b n x there y ys 0 from) X1 Y1 c i None hs u (wrote_stands y ys 0 vs X Y X1 Y1 hs from way alike (catch_after y.op hs (catches_op e.tag y t)) like wrote) (no_window X1 c i hs u)))
 
-    three_twins : (y z v : Set) (ys : List Set) (e : Raised) (X Y : ℕ → Held) (c : List Context) (i : ℕ) (w : Option Message) (h : Handler) (hs : List Handler) (s : State) (vs : List ℕ) → From b n x there (y ∷ z ∷ v ∷ ys) 0 → Way b (place n 0) vs hs → Alike b vs X Y
+    three_twins : (y z v : Set) (ys : List Set) (e : Raised) (X Y : ℕ → Held) (c : List MatchContext) (i : ℕ) (w : Option Message) (h : Handler) (hs : List Handler) (s : State) (vs : List ℕ) → From b n x there (y ∷ z ∷ v ∷ ys) 0 → Way b (point n 0) vs hs → Alike b vs X Y
         → IsTrue (lands e.tag y) → IsTrue (lands e.tag z) → IsTrue (lands e.tag v)
         → Two (closed in_vars around here e.tag (fr X c i w (h ∷ hs)) (λ g.
         go_on (put in_vars around here y.dst (term (class_word e.class)) g s) (λ h u.
@@ -136,7 +138,7 @@ module _ (b : Body) (around : Around) (here : Here) (lowers : Lowers here.enter)
         from3 : From b n x there ys 3
         from3 = tail_from b n x there v ys 2 from2
 
-    landed_twins : (ys : List Set) (e : Raised) (X Y : ℕ → Held) (c : List Context) (i : ℕ) (w : Option Message) (h : Handler) (hs : List Handler) (s : State) (vs : List ℕ) → From b n x there ys 0 → Way b (place n 0) vs hs → Alike b vs X Y
+    landed_twins : (ys : List Set) (e : Raised) (X Y : ℕ → Held) (c : List MatchContext) (i : ℕ) (w : Option Message) (h : Handler) (hs : List Handler) (s : State) (vs : List ℕ) → From b n x there ys 0 → Way b (point n 0) vs hs → Alike b vs X Y
         → Two (landed in_vars around here x.before x.last ys e (fr X c i w (h ∷ hs)) s) (landed in_vars around here x.before x.last ys e (fr Y c i w (h ∷ hs)) s)
     landed_twins [] e X Y c i w h hs s vs from way alike = twin_bad
     landed_twins (y ∷ []) e X Y c i w h hs s vs from way alike = catch_twins y [] e X Y c i w h hs s vs from way alike
@@ -156,7 +158,7 @@ module _ (b : Body) (around : Around) (here : Here) (lowers : Lowers here.enter)
 
     -- Phis.
 
-    phi_same : (ps : List Phi) (from : ℕ) (vs : List ℕ) (X Y : ℕ → Held) (c : List Context) (i : ℕ) (w : Option Message) (hs : List Handler) → Alike b vs X Y → IsTrue (all_among (phi_reads ps from) vs) → IsTrue (none_among (phi_reads ps from) (tags_in b.blocks))
+    phi_same : (ps : List Phi) (from : ℕ) (vs : List ℕ) (X Y : ℕ → Held) (c : List MatchContext) (i : ℕ) (w : Option Message) (hs : List Handler) → Alike b vs X Y → IsTrue (all_among (phi_reads ps from) vs) → IsTrue (none_among (phi_reads ps from) (tags_in b.blocks))
         → phi_values in_vars around here ps from (fr X c i w hs) ≡ phi_values in_vars around here ps from (fr Y c i w hs)
     phi_same [] from vs X Y c i w hs h p q = refl
     phi_same (a ∷ ps) from vs X Y c i w hs h p q = λ j. with_phi a.dst (by_edge (from_edge a.from from) (all_first (edge_vars (from_edge a.from from)) (phi_reads ps from) vs p) (none_first (edge_vars (from_edge a.from from)) (phi_reads ps from) (tags_in b.blocks) q) j)
@@ -180,7 +182,7 @@ module _ (b : Body) (around : Around) (here : Here) (lowers : Lowers here.enter)
         by_parts (Some z) (Some qs) h e = ap written (sym (some_is _ rs e)) ∙ ap (λ vs. a.dst ∷ vs) (h qs refl)
 
     -- all are written, to both
-    puts_then : (ps : List (ℕ × Held)) (vs : List ℕ) (X Y : ℕ → Held) (c : List Context) (i : ℕ) (w : Option Message) (hs : List Handler) (s : State) (k : Frame Vars → State → After Vars)
+    puts_then : (ps : List (ℕ × Held)) (vs : List ℕ) (X Y : ℕ → Held) (c : List MatchContext) (i : ℕ) (w : Option Message) (hs : List Handler) (s : State) (k : Frame Vars → State → After Vars)
         → Alike b vs X Y → ((X1 Y1 : ℕ → Held) → Alike b (written ps ++ vs) X1 Y1 → Two (k (fr X1 c i w hs) s) (k (fr Y1 c i w hs) s))
         → Two (go_on (put_each in_vars around here ps (fr X c i w hs) s) k) (go_on (put_each in_vars around here ps (fr Y c i w hs) s) k)
     puts_then [] vs X Y c i w hs s k h f = f X Y h
@@ -204,37 +206,37 @@ module _ (b : Body) (around : Around) (here : Here) (lowers : Lowers here.enter)
     pub before : List ℕ
     pub inner : List Handler
     pub opened : Opened e hs inner
-    pub way : Way b (place n 0) (phi_vars (phis_at b n) ++ before) inner
+    pub way : Way b (point n 0) (phi_vars (phis_at b n) ++ before) inner
     pub alike : Alike b before X Y
     pub reads : IsTrue (all_among (phi_reads (phis_at b n) from) before)
     pub values : IsTrue (none_among (phi_reads (phis_at b n) from) (tags_in b.blocks))
 
-  arrives_by : (n m k : ℕ) (hs is' : List Handler) (sets vs : List ℕ) (X Y : ℕ → Held) (now : List Handler) (e : Option Raised) → Way b (place n k) vs hs → Step b (place n k) hs (place m 0) is' (entering b n m sets) → Alike b (sets ++ vs) X Y → Opened e now is' → Arrives n m e X Y now
+  arrives_by : (n m k : ℕ) (hs is' : List Handler) (sets vs : List ℕ) (X Y : ℕ → Held) (now : List Handler) (e : Option Raised) → Way b (point n k) vs hs → Step b (point n k) hs (point m 0) is' (entering b n m sets) → Alike b (sets ++ vs) X Y → Opened e now is' → Arrives n m e X Y now
   arrives_by n m k hs is' sets vs X Y now e way step alike opened = record {
     before = sets ++ vs;
     inner = is';
     opened = opened;
-    way = subst (λ ws. Way b (place m 0) ws is') (append_assoc (phi_vars (phis_at b m)) sets vs) (goes (place n k) (place m 0) vs hs is' (entering b n m sets) way step);
+    way = subst (λ ws. Way b (point m 0) ws is') (append_assoc (phi_vars (phis_at b m)) sets vs) (goes (point n k) (point m 0) vs hs is' (entering b n m sets) way step);
     alike = alike;
-    reads = formed.edges (place n k) (place m 0) vs hs is' (entering b n m sets) way step;
-    values = formed.edge_values (place n k) (place m 0) hs is' (entering b n m sets) (vs, way) step;
+    reads = formed.edges (point n k) (point m 0) vs hs is' (entering b n m sets) way step;
+    values = formed.edge_values (point n k) (point m 0) hs is' (entering b n m sets) (vs, way) step;
   }
 
   -- what comes next is the same
   abbrev SameNext : (Option Raised → ℕ → ℕ → Frame Vars → State → Ended) → Type 0
-  SameNext go = (e : Option Raised) (from n : ℕ) (X Y : ℕ → Held) (c : List Context) (i : ℕ) (w : Option Message) (hs : List Handler) (s : State) → Arrives from n e X Y hs → Fits (fr X c i w hs) s
+  SameNext go = (e : Option Raised) (from n : ℕ) (X Y : ℕ → Held) (c : List MatchContext) (i : ℕ) (w : Option Message) (hs : List Handler) (s : State) → Arrives from n e X Y hs → Fits (fr X c i w hs) s
       → go e from n (fr X c i w hs) s ≡ go e from n (fr Y c i w hs) s
 
   module _ (n : ℕ) (x : Block) (there : block_at b n ≡ Some x) where
     phis_are : phis_at b n ≡ x.phis
     phis_are = ap (λ o. elim o as (λ z. List Phi) [ None ↦ [] | Some y ↦ y.phis ]) there
 
-    begins_twins : (e : Option Raised) (X Y : ℕ → Held) (c : List Context) (i : ℕ) (w : Option Message) (hs inner : List Handler) (s : State) (vs : List ℕ) → Opened e hs inner → Way b (place n 0) vs inner → Alike b vs X Y → Fits (fr X c i w hs) s
+    begins_twins : (e : Option Raised) (X Y : ℕ → Held) (c : List MatchContext) (i : ℕ) (w : Option Message) (hs inner : List Handler) (s : State) (vs : List ℕ) → Opened e hs inner → Way b (point n 0) vs inner → Alike b vs X Y → Fits (fr X c i w hs) s
         → Two n x there (Run.begins in_vars around here x e (fr X c i w hs) s) (Run.begins in_vars around here x e (fr Y c i w hs) s)
     begins_twins None X Y c i w hs inner s vs p way alike fits = goes_on n x there x.chain 0 (all_from b n x there) X Y c i w hs s (any x.chain) fits
       where
         standing : (ys : List Set) → Standing b n x there ys 0 X Y hs
-        standing ys = record { vars = vs; way = subst (Way b (place n 0) vs) (sym p) way; alike = alike }
+        standing ys = record { vars = vs; way = subst (Way b (point n 0) vs) (sym p) way; alike = alike }
 
         any : (ys : List Set) → Stands b n x there ys 0 X Y hs
         any [] = λ t. standing []
@@ -242,7 +244,7 @@ module _ (b : Body) (around : Around) (here : Here) (lowers : Lowers here.enter)
     begins_twins (Some e) X Y c i w hs inner s vs (h, p) way alike fits = subst (λ js. Two n x there (landed in_vars around here x.before x.last x.chain e (fr X c i w js) s) (landed in_vars around here x.before x.last x.chain e (fr Y c i w js) s)) (sym p)
         (landed_twins n x there x.chain e X Y c i w h inner s vs (all_from b n x there) way alike)
 
-    entered_twins : (from : ℕ) (e : Option Raised) (X Y : ℕ → Held) (c : List Context) (i : ℕ) (w : Option Message) (hs : List Handler) (s : State) → Arrives from n e X Y hs → Fits (fr X c i w hs) s
+    entered_twins : (from : ℕ) (e : Option Raised) (X Y : ℕ → Held) (c : List MatchContext) (i : ℕ) (w : Option Message) (hs : List Handler) (s : State) → Arrives from n e X Y hs → Fits (fr X c i w hs) s
         → Two n x there (entered_by in_vars around here from n x e (fr X c i w hs) s) (entered_by in_vars around here from n x e (fr Y c i w hs) s)
     entered_twins from e X Y c i w hs s a fits = by_values (phi_values in_vars around here x.phis from (fr X c i w hs)) refl (sym same_phis)
       where
@@ -261,26 +263,26 @@ module _ (b : Body) (around : Around) (here : Here) (lowers : Lowers here.enter)
             → Two n x there (after X (phi_values in_vars around here x.phis from (fr X c i w hs))) (after Y (phi_values in_vars around here x.phis from (fr Y c i w hs)))
         by_values o p q = rw (p, q) (all_put o p)
 
-    last_is : last_at b (place n (length x.chain)) ≡ Some x.last
+    last_is : last_at b (point n (length x.chain)) ≡ Some x.last
     last_is = ap (λ y. last_in y (length x.chain)) there ∙ at_end (eqb (length x.chain) (length x.chain)) (eq-eqb _ _ refl)
       where
         at_end : (t : Bool) → t ≡ true → (if t then Some x.last else None) ≡ Some x.last
         at_end true e = refl
         at_end false e = absurd cc
 
-    module _ (go : Option Raised → ℕ → ℕ → Frame Vars → State → Ended) (next : SameNext go) (X Y : ℕ → Held) (c : List Context) (i : ℕ) (w : Option Message) (hs : List Handler) (s : State) where
+    module _ (go : Option Raised → ℕ → ℕ → Frame Vars → State → Ended) (next : SameNext go) (X Y : ℕ → Held) (c : List MatchContext) (i : ℕ) (w : Option Message) (hs : List Handler) (s : State) where
       -- a target of the last
       goes_same : (l : Last) (m : ℕ) → x.last ≡ l → IsTrue (tests_nothing (Some l)) → Contains (targets l) m → Ends b n x there X Y hs → Fits (fr X c i w hs) s → go None n m (fr X c i w hs) s ≡ go None n m (fr Y c i w hs) s
-      goes_same l m p t h e fits = let r : (vs : List ℕ) × Way b (place n (length x.chain)) vs hs × Alike b vs X Y = e (subst (λ y. IsTrue (tests_nothing (Some y))) (sym p) t) in
-          next None n m X Y c i w hs s (arrives_by n m (length x.chain) hs hs [] r.0 X Y hs None r.1 (leads (place n (length x.chain)) hs l m (last_is ∙ ap (λ y. Some y) p) h) r.2 refl) fits
+      goes_same l m p t h e fits = let r : (vs : List ℕ) × Way b (point n (length x.chain)) vs hs × Alike b vs X Y = e (subst (λ y. IsTrue (tests_nothing (Some y))) (sym p) t) in
+          next None n m X Y c i w hs s (arrives_by n m (length x.chain) hs hs [] r.0 X Y hs None r.1 (leads (point n (length x.chain)) hs l m (last_is ∙ ap (λ y. Some y) p) h) r.2 refl) fits
 
       -- what the last reads
       reads_same : (l : Last) (a : Arg) → x.last ≡ l → IsTrue (tests_nothing (Some l)) → last_vars l ≡ arg_vars (a ∷ []) → Ends b n x there X Y hs → held in_vars around here (fr X c i w hs) a ≡ held in_vars around here (fr Y c i w hs) a
       reads_same l a p t h e = held_alike around here b r.0 X Y c i w hs a r.2
-          (subst (λ vs. IsTrue (all_among vs r.0)) h (subst (λ o. IsTrue (all_among (end_vars o) r.0)) (last_is ∙ ap (λ y. Some y) p) (all_second (set_vars (set_at b (place n (length x.chain)))) (end_vars (last_at b (place n (length x.chain)))) r.0 (formed.available (place n (length x.chain)) r.0 hs r.1))))
-          (subst (λ vs. IsTrue (none_among vs (tags_in b.blocks))) h (subst (λ o. IsTrue (none_among (end_vars o) (tags_in b.blocks))) (last_is ∙ ap (λ y. Some y) p) (none_second (value_vars (set_at b (place n (length x.chain)))) (end_vars (last_at b (place n (length x.chain)))) (tags_in b.blocks) (formed.values (place n (length x.chain)) hs (r.0, r.1)))))
+          (subst (λ vs. IsTrue (all_among vs r.0)) h (subst (λ o. IsTrue (all_among (end_vars o) r.0)) (last_is ∙ ap (λ y. Some y) p) (all_second (set_vars (set_at b (point n (length x.chain)))) (end_vars (last_at b (point n (length x.chain)))) r.0 (formed.available (point n (length x.chain)) r.0 hs r.1))))
+          (subst (λ vs. IsTrue (none_among vs (tags_in b.blocks))) h (subst (λ o. IsTrue (none_among (end_vars o) (tags_in b.blocks))) (last_is ∙ ap (λ y. Some y) p) (none_second (value_vars (set_at b (point n (length x.chain)))) (end_vars (last_at b (point n (length x.chain)))) (tags_in b.blocks) (formed.values (point n (length x.chain)) hs (r.0, r.1)))))
         where
-          r : (vs : List ℕ) × Way b (place n (length x.chain)) vs hs × Alike b vs X Y
+          r : (vs : List ℕ) × Way b (point n (length x.chain)) vs hs × Alike b vs X Y
           r = e (subst (λ y. IsTrue (tests_nothing (Some y))) (sym p) t)
 
       branch_same : (a : Arg) (t e : ℕ) → x.last ≡ br a t e → Ends b n x there X Y hs → Fits (fr X c i w hs) s → (o : Option Bool) → goes_by in_vars around here o go n t e (fr X c i w hs) s ≡ goes_by in_vars around here o go n t e (fr Y c i w hs) s
@@ -319,13 +321,13 @@ module _ (b : Body) (around : Around) (here : Here) (lowers : Lowers here.enter)
       on_same (ret a) p h fits = ap (λ v. returned in_vars around here v (fr X c i w hs) s) (reads_same (ret a) a p refl refl h) ∙ returned_same (held in_vars around here (fr Y c i w hs) a) w
 
       pick_same : (v : Bool) → (p : Chose b n x there v X Y hs) → Fits (fr X c i w hs) s → leave_pick in_vars around here go n (succeeded p.last.var p.last.holds p.tested) v (fr X c i w hs) s ≡ leave_pick in_vars around here go n (succeeded p.last.var p.last.holds p.tested) v (fr Y c i w hs) s
-      pick_same true p fits = next None n p.last.holds X Y c i w hs s (arrives_by n p.last.holds p.at p.before _ (given_vars p.by) p.vars X Y hs None p.way (succeeds (place n p.at) p.before p.by p.last.var p.last.holds p.tested p.is_there (ap last_of there ∙ ap (λ y. Some y) p.last.last)) p.alike p.handlers) fits
-      pick_same false p fits = next None n p.tested X Y c i w hs s (arrives_by n p.tested p.at p.before _ [] p.vars X Y hs None p.way (fails (place n p.at) p.before p.by p.tested p.is_there (p.starts refl)) p.alike p.handlers) fits
+      pick_same true p fits = next None n p.last.holds X Y c i w hs s (arrives_by n p.last.holds p.at p.before _ (given_vars p.by) p.vars X Y hs None p.way (succeeds (point n p.at) p.before p.by p.last.var p.last.holds p.tested p.is_there (ap last_of there ∙ ap (λ y. Some y) p.last.last)) p.alike p.handlers) fits
+      pick_same false p fits = next None n p.tested X Y c i w hs s (arrives_by n p.tested p.at p.before _ [] p.vars X Y hs None p.way (fails (point n p.at) p.before p.by p.tested p.is_there (p.starts refl)) p.alike p.handlers) fits
 
       up_same : (q : Class) (r : Term) (js : List Handler) → hs ≡ js → Rose b n x there X Y hs → w ≡ None → raised_to in_vars around here (first_handler js) go n q r (fr X c i w hs) s ≡ raised_to in_vars around here (first_handler js) go n q r (fr Y c i w hs) s
       up_same q r [] e p o = refl
       up_same q r (h ∷ is') e p o = next (Some (record { tag = h.tag; class = q; reason = r })) n h.landing X Y c i w hs s
-          (arrives_by n h.landing p.at (h ∷ is') is' [] p.vars X Y hs (Some (record { tag = h.tag; class = q; reason = r })) (subst (Way b (place n p.at) p.vars) e p.way) (raises (place n p.at) h is' p.by p.mode p.is_there p.may) p.alike (h, e))
+          (arrives_by n h.landing p.at (h ∷ is') is' [] p.vars X Y hs (Some (record { tag = h.tag; class = q; reason = r })) (subst (Way b (point n p.at) p.vars) e p.way) (raises (point n p.at) h is' p.by p.mode p.is_there p.may) p.alike (h, e))
           (λ m z. let y : None ≡ Some m = sym o ∙ z in cc)
 
       looking_same : (q : Class) (r : Term) (v : Option Message) → w ≡ v → Rose b n x there X Y hs → unless_looking v (raised_to in_vars around here (first_handler hs) go n q r (fr X c i w hs) s) ≡ unless_looking v (raised_to in_vars around here (first_handler hs) go n q r (fr Y c i w hs) s)
@@ -351,12 +353,12 @@ module _ (b : Body) (around : Around) (here : Here) (lowers : Lowers here.enter)
           ∙ leave_same n x p (blocks in_vars around here b k) ih _ _ (entered_twins n x p from e X Y c i w hs s a fits)
           ∙ ap (λ o. block_does in_vars around here o (blocks in_vars around here b k) e from n (fr Y c i w hs) s) (sym p)
 
-  pub begins_same : (k : ℕ) (X Y : ℕ → Held) (c : List Context) (s : State) → Alike b b.params X Y → blocks in_vars around here b k None 0 0 (fr X c 0 None []) s ≡ blocks in_vars around here b k None 0 0 (fr Y c 0 None []) s
+  pub begins_same : (k : ℕ) (X Y : ℕ → Held) (c : List MatchContext) (s : State) → Alike b b.params X Y → blocks in_vars around here b k None 0 0 (fr X c 0 None []) s ≡ blocks in_vars around here b k None 0 0 (fr Y c 0 None []) s
   begins_same k X Y c s h = blocks_same k None 0 0 X Y c 0 None [] s (record {
     before = b.params;
     inner = [];
     opened = refl;
-    way = subst (λ ps. Way b (place 0 0) (phi_vars ps ++ b.params) []) (sym formed.no_phis) begins;
+    way = subst (λ ps. Way b (point 0 0) (phi_vars ps ++ b.params) []) (sym formed.no_phis) begins;
     alike = h;
     reads = subst (λ ps. IsTrue (all_among (phi_reads ps 0) b.params)) (sym formed.no_phis) refl;
     values = subst (λ ps. IsTrue (none_among (phi_reads ps 0) (tags_in b.blocks))) (sym formed.no_phis) refl;

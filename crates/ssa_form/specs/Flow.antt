@@ -6,14 +6,14 @@ use Rattle.ssa_form.specs.SsaRun.{mode_of, from_edge}
 use Rattle.ssa_form.specs.SetFacts.{arg_vars, given_vars, is_tests, may_raise}
 
 -- in a block, where this many of its sets are done
-pub record Place : Type 0 where
+pub record Point : Type 0 where
   pub block : ℕ
   pub done : ℕ
 
-abbrev pub place : ℕ → ℕ → Place
-place n k = record { block = n; done = k }
+abbrev pub point : ℕ → ℕ → Point
+point n k = record { block = n; done = k }
 
-abbrev pub next : Place → Place
+abbrev pub next : Point → Point
 next p = record p { done = suc p.done }
 
 -- a set, and how its block's last takes it
@@ -26,16 +26,16 @@ abbrev pub set_in : Option Block → ℕ → Option (Set × Mode)
 set_in None k = None
 set_in (Some b) k = set_from b.chain k b.before b.last
 
--- the set at a place
-abbrev pub set_at : Body → Place → Option (Set × Mode)
+-- the set at a point
+abbrev pub set_at : Body → Point → Option (Set × Mode)
 set_at b p = set_in (block_at b p.block) p.done
 
 abbrev pub last_in : Option Block → ℕ → Option Last
 last_in None k = None
 last_in (Some b) k = if eqb k (length b.chain) then Some b.last else None
 
--- the last at a place where all sets are done
-abbrev pub last_at : Body → Place → Option Last
+-- the last at a point where all sets are done
+abbrev pub last_at : Body → Point → Option Last
 last_at b p = last_in (block_at b p.block) p.done
 
 abbrev pub last_of : Option Block → Option Last
@@ -87,33 +87,33 @@ abbrev pub opened : Op → Option ℕ → ℕ → List Handler → List Handler
 opened try_start (Some v) e hs = record { tag = v; landing = e } ∷ hs
 opened op d e hs = hs
 
--- One step from a place with open handlers to the next: past a set; along a last; by the success or the failure of a set
+-- One step from a point with open handlers to the next: past a set; along a last; by the success or the failure of a set
 -- that the last tests, where a `try_start` does not fail; to a landing, by a set that may raise.
-pub data Step (b : Body) : Place → List Handler → Place → List Handler → Effect → Type 0 where
-  passes : (p : Place) (hs : List Handler) (x : Set) (m : Mode) → set_at b p ≡ Some (x, m) → IsFalse (is_tests m)
+pub data Step (b : Body) : Point → List Handler → Point → List Handler → Effect → Type 0 where
+  passes : (p : Point) (hs : List Handler) (x : Set) (m : Mode) → set_at b p ≡ Some (x, m) → IsFalse (is_tests m)
       → Step b p hs (next p) (after_op x.op hs) (setting (given_vars x))
-  leads : (p : Place) (hs : List Handler) (l : Last) (n : ℕ) → last_at b p ≡ Some l → Contains (targets l) n
-      → Step b p hs (place n 0) hs (entering b p.block n [])
-  succeeds : (p : Place) (hs : List Handler) (x : Set) (v t e : ℕ) → set_at b p ≡ Some (x, tests e) → last_of (block_at b p.block) ≡ Some (succeeded v t e)
-      → Step b p hs (place t 0) (opened x.op x.dst e hs) (entering b p.block t (given_vars x))
-  fails : (p : Place) (hs : List Handler) (x : Set) (e : ℕ) → set_at b p ≡ Some (x, tests e) → (x.op ≡ try_start → ⊥)
-      → Step b p hs (place e 0) hs (entering b p.block e [])
-  raises : (p : Place) (h : Handler) (hs : List Handler) (x : Set) (m : Mode) → set_at b p ≡ Some (x, m) → IsTrue (may_raise m x.op)
-      → Step b p (h ∷ hs) (place h.landing 0) hs (entering b p.block h.landing [])
+  leads : (p : Point) (hs : List Handler) (l : Last) (n : ℕ) → last_at b p ≡ Some l → Contains (targets l) n
+      → Step b p hs (point n 0) hs (entering b p.block n [])
+  succeeds : (p : Point) (hs : List Handler) (x : Set) (v t e : ℕ) → set_at b p ≡ Some (x, tests e) → last_of (block_at b p.block) ≡ Some (succeeded v t e)
+      → Step b p hs (point t 0) (opened x.op x.dst e hs) (entering b p.block t (given_vars x))
+  fails : (p : Point) (hs : List Handler) (x : Set) (e : ℕ) → set_at b p ≡ Some (x, tests e) → (x.op ≡ try_start → ⊥)
+      → Step b p hs (point e 0) hs (entering b p.block e [])
+  raises : (p : Point) (h : Handler) (hs : List Handler) (x : Set) (m : Mode) → set_at b p ≡ Some (x, m) → IsTrue (may_raise m x.op)
+      → Step b p (h ∷ hs) (point h.landing 0) hs (entering b p.block h.landing [])
 
--- A way from the start to a place: the variables that it set, and the handlers that are open, from the inside out.
-pub data Way (b : Body) : Place → List ℕ → List Handler → Type 0 where
-  begins : Way b (place 0 0) b.params []
-  goes : (p q : Place) (vs : List ℕ) (hs is' : List Handler) (e : Effect) → Way b p vs hs → Step b p hs q is' e
+-- A way from the start to a point: the variables that it set, and the handlers that are open, from the inside out.
+pub data Way (b : Body) : Point → List ℕ → List Handler → Type 0 where
+  begins : Way b (point 0 0) b.params []
+  goes : (p q : Point) (vs : List ℕ) (hs is' : List Handler) (e : Effect) → Way b p vs hs → Step b p hs q is' e
       → Way b q (e.phis ++ e.sets ++ vs) is'
 
--- a way reaches the place, with these handlers open
-abbrev pub Reached : Body → Place → List Handler → Type 0
+-- a way reaches the point, with these handlers open
+abbrev pub Reached : Body → Point → List Handler → Type 0
 Reached b p hs = (vs : List ℕ) × Way b p vs hs
 
 -- a way leads from one block into another
 abbrev pub Leads : Body → ℕ → ℕ → Type 0
-Leads b n m = (k : ℕ) × (hs is' : List Handler) × (e : Effect) × Reached b (place n k) hs × Step b (place n k) hs (place m 0) is' e
+Leads b n m = (k : ℕ) × (hs is' : List Handler) × (e : Effect) × Reached b (point n k) hs × Step b (point n k) hs (point m 0) is' e
 
 -- the blocks that ways pass from one to another, the first included, the last not
 pub data Passing (b : Body) : ℕ → ℕ → List ℕ → Type 0 where

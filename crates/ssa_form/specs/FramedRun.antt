@@ -5,9 +5,10 @@ use Rattle.erl_term.specs.Term.{Term}
 use Rattle.erl_term.specs.Terms.{Values}
 use Rattle.world_model.specs.Run.{State, Outcome}
 use Rattle.step_machine.specs.Bodies.{Here}
+use Rattle.step_machine.specs.Frames.{MatchContext, is_tag, lowest_tag, no_tags}
 use Rattle.ssa_form.specs.Ssa.{Body, FrameAction, allocate, deallocate, kill, trim}
-use Rattle.ssa_form.specs.Storage.{Held, Context, Handler, Leaving, calls, ends_body, always_raises, Storage, Ended, done, Around}
-use Rattle.ssa_form.specs.Spots.{Spot, x_reg, y_slot, Spots, spot_of, slot_count, Cell, empty, killed, own, tag, nothing, with_cell, is_tag, is_tag_of, held_in}
+use Rattle.ssa_form.specs.Storage.{Held, Handler, Leaving, calls, ends_body, always_raises, Storage, Ended, done, Around}
+use Rattle.ssa_form.specs.Spots.{Spot, x_reg, y_slot, Spots, spot_of, slot_count, Cell, empty, killed, own, tag, nothing, with_cell, tag_in, is_tag_of, held_in}
 use Rattle.ssa_form.specs.SsaRun.{only_if, all_terms, body_run, blocks}
 use Rattle.ssa_form.specs.PlacedRun.{run_if, and_then}
 
@@ -27,10 +28,6 @@ abbrev pub size_at : List (ℕ × ℕ) → ℕ → Option ℕ
 size_at [] n = None
 size_at (p ∷ ps) n = if eqb p.0 n then Some p.1 else size_at ps n
 
-abbrev pub no_tags : List Cell → Bool
-no_tags [] = true
-no_tags (c ∷ cs) = not (is_tag c) && no_tags cs
-
 abbrev pub none_empty : List Cell → Bool
 none_empty [] = true
 none_empty (empty ∷ cs) = false
@@ -40,11 +37,6 @@ abbrev pub with_slot : ℕ → Cell → List Cell → List Cell
 with_slot n c [] = []
 with_slot zero c (d ∷ ds) = c ∷ ds
 with_slot (suc n) c (d ∷ ds) = d ∷ with_slot n c ds
-
-abbrev pub lowest_tag : List Cell → Option Handler
-lowest_tag [] = None
-lowest_tag (tag v b ∷ cs) = Some (record { tag = v; landing = b })
-lowest_tag (c ∷ cs) = lowest_tag cs
 
 abbrev pub with_frame : Stack → Option (List Cell) → Option Stack
 with_frame st None = None
@@ -90,7 +82,7 @@ module _ (spots : Spots) (sizes : List (ℕ × ℕ)) where
   -- a slot of the frame that holds no tag
   abbrev pub put_slot : Option ℕ → Cell → List Cell → Option (List Cell)
   put_slot None c ys = None
-  put_slot (Some i) c ys = only_if (not (is_tag (or_empty (slice_get ys i)))) (with_slot i c ys)
+  put_slot (Some i) c ys = only_if (not (is_tag tag_in (or_empty (slice_get ys i)))) (with_slot i c ys)
 
   abbrev pub write_slot : Bool → ℕ → Cell → Stack → Option Stack
   write_slot true n c st = None
@@ -104,7 +96,7 @@ module _ (spots : Spots) (sizes : List (ℕ × ℕ)) where
   -- no tag may stand in the slot or below it
   abbrev pub open_slot : Handler → Option ℕ → List Cell → Option (List Cell)
   open_slot h None ys = None
-  open_slot h (Some i) ys = only_if (no_tags (take (suc i) ys)) (with_slot i (tag h.tag h.landing) ys)
+  open_slot h (Some i) ys = only_if (no_tags tag_in (take (suc i) ys)) (with_slot i (tag h.tag h.landing) ys)
 
   abbrev pub open_in : Handler → Option Spot → Stack → Option Stack
   open_in h (Some (y_slot n)) st = in_frame st.frame λ ys. with_frame st (open_slot h (index_of n ys) ys)
@@ -113,7 +105,7 @@ module _ (spots : Spots) (sizes : List (ℕ × ℕ)) where
   -- the lowest tag goes, and its slot is killed
   abbrev pub close_slot : ℕ → Option ℕ → List Cell → Option (List Cell)
   close_slot v None ys = None
-  close_slot v (Some i) ys = only_if (is_tag_of v (or_empty (slice_get ys i)) && no_tags (take i ys)) (with_slot i killed ys)
+  close_slot v (Some i) ys = only_if (is_tag_of v (or_empty (slice_get ys i)) && no_tags tag_in (take i ys)) (with_slot i killed ys)
 
   abbrev pub close_in : ℕ → Option Spot → Stack → Option Stack
   close_in v (Some (y_slot n)) st = in_frame st.frame λ ys. with_frame st (close_slot v (index_of n ys) ys)
@@ -129,9 +121,9 @@ module _ (spots : Spots) (sizes : List (ℕ × ℕ)) where
 
   abbrev pub acts_on : FrameAction → Stack → Option Stack
   acts_on (allocate n) st = if eqb n top then elim st.frame [ None ↦ Some (record st { frame = Some (replicate n empty) }) | Some ys ↦ None ] else None
-  acts_on (deallocate n) st = in_frame st.frame λ ys. only_if (eqb (length ys) n && no_tags ys) (record st { frame = None })
+  acts_on (deallocate n) st = in_frame st.frame λ ys. only_if (eqb (length ys) n && no_tags tag_in ys) (record st { frame = None })
   acts_on (kill n) st = write_slot false n killed st
-  acts_on (trim n) st = in_frame st.frame λ ys. only_if (leb n (length ys) && no_tags (take n ys)) (record st { frame = Some (drop n ys) })
+  acts_on (trim n) st = in_frame st.frame λ ys. only_if (leb n (length ys) && no_tags tag_in (take n ys)) (record st { frame = Some (drop n ys) })
 
   abbrev pub in_stack : Storage Stack
   in_stack = record {
@@ -143,7 +135,7 @@ module _ (spots : Spots) (sizes : List (ℕ × ℕ)) where
     forgets = λ st. record st { xs = nothing };
     opens = λ h st. open_in h (spot_of spots h.tag) st;
     closes = λ v st. close_in v (spot_of spots v) st;
-    handler = λ st. elim st.frame [ None ↦ None | Some ys ↦ lowest_tag ys ];
+    handler = λ st. elim st.frame [ None ↦ None | Some ys ↦ lowest_tag tag_in ys ];
     acts = λ w a st. if w then None else acts_on a st;
   }
 
@@ -157,7 +149,7 @@ first_frame None = None
 first_frame (Some n) = Some (replicate n empty)
 
 -- the first block's frame is there at the start, and the arguments stand in their parameters' spots
-unfoldable pub framed_run : Around → Here → Framed → ℕ → List Held → List Context → State → Ended
+unfoldable pub framed_run : Around → Here → Framed → ℕ → List Held → List MatchContext → State → Ended
 unfolding blocks
 framed_run around here p k hs cs s =
     run_if (params_in p.spots p.sizes p.body.params hs (record { xs = nothing; frame = first_frame (size_at p.sizes 0) }))

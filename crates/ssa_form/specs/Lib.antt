@@ -4,7 +4,6 @@ pub mod View
 pub mod Storage
 pub mod Checks
 pub mod Values
-pub mod Markers
 pub mod Operations
 pub mod SsaRun
 pub mod Spots

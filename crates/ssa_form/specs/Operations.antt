@@ -14,14 +14,17 @@ use Rattle.world_model.specs.Run.{State, Outcome, gives, raises, waits, spent, M
 use Rattle.world_model.specs.Meaning.{single}
 use Rattle.world_model.specs.MapUpdate.{put_all}
 use Rattle.world_model.specs.Receive.{Timeout, now, in', wrong, timeout_of, without, new_or}
-use Rattle.world_model.specs.Requests.{send_to}
-use Rattle.step_machine.specs.Bodies.{Here, calling}
+use Rattle.world_model.specs.References.{Standing, after_note, standing, place_of}
+use Rattle.world_model.specs.RemoteCalls.{takes, call_terms, apply_term, raise_again}
+use Rattle.world_model.specs.Requests.{badarg, send_to}
+use Rattle.step_machine.specs.Bodies.{Here, calling, callees}
+use Rattle.step_machine.specs.Frames.{MatchContext, moved, rest_of}
 use Rattle.ssa_form.specs.Ssa as Ssa
-use Rattle.ssa_form.specs.Ssa.{Arg, var, lit, Op, Set}
-use Rattle.ssa_form.specs.Checks.{holds, compare_holds, has_keys}
-use Rattle.ssa_form.specs.Storage.{Held, unset, term, context, position, marker, Context, Leaving, calls, ends_body, always_raises, Storage, Frame, After, on, pick, up, over, bad, Mode, plain, tail, jump, tests, Around, in_window, go_on, when, if_some, outside, inside, kept}
-use Rattle.ssa_form.specs.Values.{terms_of, handed, takes, remote, raises_always, applied, raise_again, puts_of, parts_of, badarg, rest_of, moved, is_tail}
-use Rattle.ssa_form.specs.Markers.{standing, place_used}
+use Rattle.ssa_form.specs.Ssa.{Arg, var, lit, Op}
+use Rattle.bif_table.specs.TermTests.{compare_holds}
+use Rattle.ssa_form.specs.Checks.{holds, has_keys}
+use Rattle.ssa_form.specs.Storage.{Held, unset, term, context, position, marker, Leaving, calls, ends_body, always_raises, Storage, Frame, After, on, pick, up, over, bad, Mode, plain, tail, jump, tests, Around, in_window, go_on, when, if_some, outside, inside, kept}
+use Rattle.ssa_form.specs.Values.{terms_of, handed, raises_always, puts_of, parts_of, is_tail}
 
 module _ {S : Type 0} (o : Storage S) (around : Around) (here : Here) where
   abbrev pub held : Frame S → Arg → Held
@@ -93,17 +96,17 @@ module _ {S : Type 0} (o : Storage S) (around : Around) (here : Here) where
 
   abbrev pub local_does : ℕ → Mode → Option ℕ → List Held → Frame S → State → After S
   local_does n mode dst hs f s =
-      when (takes around.arities n (length hs))
+      when (takes (slice_get around.arities n) (length hs))
       (if_some (handed (is_tail mode) f.contexts around.reached n hs) λ vs.
       calls_by mode calls dst (calling here n (is_tail mode) vs >>= single) f s)
 
   abbrev pub remote_does : Mode → Option ℕ → Values → Frame S → State → After S
   remote_does mode dst (m ∷ g ∷ vs) f s =
-      calls_by mode (leaving_of (raises_always m g (length vs))) dst (remote here.own m g vs) f s
+      calls_by mode (leaving_of (raises_always m g (length vs))) dst (call_terms here.own m g vs) f s
   remote_does mode dst _ f s = bad
 
   abbrev pub fun_does : Option ℕ → Values → Frame S → State → After S
-  fun_does dst (t ∷ vs) f s = calls_by plain calls dst (applied around here t vs) f s
+  fun_does dst (t ∷ vs) f s = calls_by plain calls dst (apply_term (callees around.arities here) t vs) f s
   fun_does dst [] f s = bad
 
   abbrev pub send_does : Mode → Option ℕ → Values → Frame S → State → After S
@@ -153,15 +156,15 @@ module _ {S : Type 0} (o : Storage S) (around : Around) (here : Here) where
   start_does mode dst (term t ∷ []) f s = asked mode false f s
   start_does mode dst _ f s = bad
 
-  abbrev pub with_context : Frame S → Held → (ℕ → Context → After S) → After S
+  abbrev pub with_context : Frame S → Held → (ℕ → MatchContext → After S) → After S
   with_context f (context n) k = if_some (slice_get f.contexts n) (k n)
   with_context f _ k = bad
 
-  abbrev pub at_context : Frame S → List Held → (Context → After S) → After S
+  abbrev pub at_context : Frame S → List Held → (MatchContext → After S) → After S
   at_context f (h ∷ []) k = with_context f h λ n w. k w
   at_context f _ k = bad
 
-  abbrev pub took : Mode → ℕ → Context → Option ℕ → Frame S → State → (List Bool → Frame S → After S) → After S
+  abbrev pub took : Mode → ℕ → MatchContext → Option ℕ → Frame S → State → (List Bool → Frame S → After S) → After S
   took mode n w None f s k = asked mode false f s
   took mode n w (Some j) f s k = k (take j (rest_of w)) (record f { contexts = moved n (w.at + j) f.contexts })
 
@@ -239,15 +242,17 @@ module _ {S : Type 0} (o : Storage S) (around : Around) (here : Here) where
       on f (noting (marked (record { reference = T.reference r; serial = n; before = [] })) s)
   bind_does _ f s = bad
 
+  -- a receive for a reference begins: the save place is that of the serial below which it passes messages over
+  abbrev pub begins : Term → Standing → Frame S → State → After S
+  begins r a f s = on (record f { save = place_of (after_note (began (Some r)) a).low s.mailbox }) (noting (began (Some r)) s)
+
   abbrev pub use_does : Values → Frame S → State → After S
-  use_does (T.reference r ∷ []) f s = outside f (
-      on (record f { save = place_used (standing around.choices s.notes) (T.reference r) s.mailbox })
-      (noting (began (Some (T.reference r))) s))
+  use_does (T.reference r ∷ []) f s = outside f (begins (T.reference r) (standing around.choices s.notes) f s)
   use_does _ f s = bad
 
   -- Operations on terms alone.
   unfoldable pub on_terms : Op → Mode → Option ℕ → Values → Frame S → State → After S
-  unfolding answer put_all same_term place_used standing remote compare_holds has_keys
+  unfolding answer put_all same_term after_note standing call_terms compare_holds has_keys
   on_terms (Ssa.bif b) mode dst vs f s = when (eqb (length vs) (arity_of b) && is_guard b)
       (if is_collecting b then collected f (λ g. answers mode dst (answer b here.own vs) g s) else answers mode dst (answer b here.own vs) f s)
   on_terms Ssa.cons mode dst vs f s = collected f λ g. cons_does dst vs g s

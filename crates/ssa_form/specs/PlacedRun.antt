@@ -4,9 +4,10 @@ use Rattle.erl_term.specs.Term.{Term}
 use Rattle.erl_term.specs.Terms.{Values}
 use Rattle.world_model.specs.Run.{State, Outcome}
 use Rattle.step_machine.specs.Bodies.{Here}
+use Rattle.step_machine.specs.Frames.{MatchContext, is_tag}
 use Rattle.ssa_form.specs.Ssa.{Body}
-use Rattle.ssa_form.specs.Storage.{Held, Context, Handler, Leaving, ends_body, Storage, Ended, done, Around}
-use Rattle.ssa_form.specs.Spots.{Spot, x_reg, y_slot, Spots, spot_of, Cell, empty, own, tag, nothing, with_cell, is_tag, is_tag_of, held_in}
+use Rattle.ssa_form.specs.Storage.{Held, Handler, Leaving, ends_body, Storage, Ended, done, Around}
+use Rattle.ssa_form.specs.Spots.{Spot, x_reg, y_slot, Spots, spot_of, Cell, empty, own, tag, nothing, with_cell, tag_in, is_tag_of, held_in}
 use Rattle.ssa_form.specs.SsaRun.{no_handlers, first_handler, without_first, only_if, all_terms, body_run, blocks}
 
 -- a body with the spot of each variable
@@ -35,7 +36,7 @@ module _ (spots : Spots) where
   write_in w c None st = None
   write_in w c (Some (x_reg n)) st = Some (record st { xs = with_cell n c st.xs })
   write_in true c (Some (y_slot n)) st = None
-  write_in false c (Some (y_slot n)) st = only_if (not (is_tag (st.ys n))) (record st { ys = with_cell n c st.ys })
+  write_in false c (Some (y_slot n)) st = only_if (not (is_tag tag_in (st.ys n))) (record st { ys = with_cell n c st.ys })
 
   abbrev pub in_higher : ℕ → Option Spot → Bool
   in_higher n (Some (y_slot m)) = ltb n m
@@ -92,7 +93,7 @@ abbrev pub run_if : {A : Type 0} → Option A → (A → Ended) → Ended
 run_if None k = Ended.bad
 run_if (Some a) k = k a
 
-unfoldable pub placed_run : Around → Here → Placed → ℕ → List Held → List Context → State → Ended
+unfoldable pub placed_run : Around → Here → Placed → ℕ → List Held → List MatchContext → State → Ended
 unfolding blocks
 placed_run around here p k hs cs s =
     run_if (params_in p.spots p.body.params hs no_registers) λ st. body_run (in_registers p.spots) around here p.body k st cs s

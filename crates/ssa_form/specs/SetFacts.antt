@@ -1,8 +1,9 @@
 -- What can be said of a single set: its operands, whether it is in form, whether it may raise, and what it unsets.
 use Rattle.std.specs.Prelude.{ℕ, zero, suc, ◌*◌, List, [], ◌∷◌, length, Bool, true, false, not, ◌&&◌, ◌||◌, eqb, leb, Option, Some, None, if◌then◌else◌}
+use Rattle.erl_base.specs.Lists.{among}
 use Rattle.bif_table.specs.Builtins as B
 use Rattle.bif_table.specs.Builtins.{Bif, arity_of, is_guard}
-use Rattle.ssa_form.specs.Ssa.{Arg, var, lit, Check, is_eq_exact, is_ne_exact, is_eq, is_ne, is_lt, is_ge, is_function2, has_map_fields, Op, copy, bif, cons, tuple, map_put, map_get, element, hd, tl, check, make_fun, call_local, call_fun, call_remote, send, trace, raise, bs_start, bs_integer, bs_binary, bs_skip, bs_done, bs_unit, bs_tail, bs_position, bs_restore, bs_create, try_start, try_end, landing, catch_end, peek, take_message, skip_message, wait, reset, reserve, bind, use_marker, Set}
+use Rattle.ssa_form.specs.Ssa.{Arg, var, lit, Check, compares, has_map_fields, Op, copy, bif, cons, tuple, map_put, map_get, element, hd, tl, check, make_fun, call_local, call_fun, call_remote, send, trace, raise, bs_start, bs_integer, bs_binary, bs_skip, bs_done, bs_unit, bs_tail, bs_position, bs_restore, bs_create, try_start, try_end, landing, catch_end, peek, take_message, skip_message, wait, reset, reserve, bind, use_marker, Set}
 use Rattle.ssa_form.specs.Storage.{Mode, jump, tests}
 
 abbrev pub arg_vars : List Arg → List ℕ
@@ -13,10 +14,6 @@ arg_vars (lit t ∷ as') = arg_vars as'
 abbrev pub dst_vars : Option ℕ → List ℕ
 dst_vars None = []
 dst_vars (Some v) = v ∷ []
-
-abbrev pub among : ℕ → List ℕ → Bool
-among v [] = false
-among v (w ∷ ws) = eqb v w || among v ws
 
 abbrev pub all_among : List ℕ → List ℕ → Bool
 all_among [] ws = true
@@ -62,13 +59,7 @@ is_taken always mode = is_tests mode
 is_taken by_jump mode = is_jump mode
 
 abbrev pub check_count : Check → ℕ → Bool
-check_count is_eq_exact n = eqb n 2
-check_count is_ne_exact n = eqb n 2
-check_count is_eq n = eqb n 2
-check_count is_ne n = eqb n 2
-check_count is_lt n = eqb n 2
-check_count is_ge n = eqb n 2
-check_count is_function2 n = eqb n 2
+check_count (compares c) n = eqb n 2
 check_count has_map_fields n = leb 2 n
 check_count c n = eqb n 1
 

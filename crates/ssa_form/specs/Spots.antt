@@ -1,6 +1,6 @@
 -- Registers and slots of the stack frame, and what they hold.
-use Rattle.std.specs.Prelude.{ℕ, suc, List, [], ◌∷◌, max, Bool, true, false, eqb, Option, Some, None, if◌then◌else◌}
-use Rattle.ssa_form.specs.Storage.{Held, unset}
+use Rattle.std.specs.Prelude.{ℕ, suc, List, [], ◌∷◌, max, Bool, false, eqb, Option, Some, None, if◌then◌else◌}
+use Rattle.ssa_form.specs.Storage.{Held, unset, Handler}
 
 pub data Spot : Type 0 where
   x_reg y_slot : ℕ → Spot
@@ -26,9 +26,10 @@ nothing n = empty
 abbrev pub with_cell : ℕ → Cell → (ℕ → Cell) → ℕ → Cell
 with_cell n c cs k = if eqb k n then c else cs k
 
-abbrev pub is_tag : Cell → Bool
-is_tag (tag v b) = true
-is_tag _ = false
+-- the handler whose tag a cell holds
+abbrev pub tag_in : Cell → Option Handler
+tag_in (tag v b) = Some (record { tag = v; landing = b })
+tag_in _ = None
 
 abbrev pub is_tag_of : ℕ → Cell → Bool
 is_tag_of v (tag w b) = eqb v w

@@ -4,6 +4,7 @@ use Rattle.erl_base.specs.Names.{Name}
 use Rattle.erl_term.specs.Term.{Term}
 use Rattle.erl_term.specs.Segments.{Shape}
 use Rattle.bif_table.specs.Builtins.{Bif}
+use Rattle.bif_table.specs.TermTests.{TypeTest, Comparison}
 
 pub data Arg : Type 0 where
   var : ℕ → Arg
@@ -11,8 +12,8 @@ pub data Arg : Type 0 where
 
 -- the tests of the machine, by their names there
 pub data Check : Type 0 where
-  is_atom is_integer is_number is_list is_nonempty_list is_nil is_tuple is_binary is_bitstr is_boolean is_function : Check
-  is_map is_pid is_port is_reference is_eq_exact is_ne_exact is_eq is_ne is_lt is_ge is_function2 : Check
+  test : TypeTest → Check
+  compares : Comparison → Check
   test_arity : ℕ → Check
   is_tagged_tuple : ℕ → Name → Check
   has_map_fields : Check

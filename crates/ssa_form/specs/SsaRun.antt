@@ -9,8 +9,9 @@ use Rattle.world_model.specs.World.{Message}
 use Rattle.world_model.specs.Run.{State, Outcome, gives, raises}
 use Rattle.world_model.specs.Requests.{exit_of}
 use Rattle.step_machine.specs.Bodies.{Here}
+use Rattle.step_machine.specs.Frames.{MatchContext}
 use Rattle.ssa_form.specs.Ssa.{Arg, var, Op, landing, catch_end, FrameAction, Set, Last, br, succeeded, switch, ret, Phi, Block, Body, block_at}
-use Rattle.ssa_form.specs.Storage.{Held, unset, term, Context, Handler, Leaving, ends_body, Storage, Frame, After, on, pick, up, over, Ended, done, unfinished, Mode, plain, tail, jump, tests, Around, in_window, go_on, when, if_some, outside, kept}
+use Rattle.ssa_form.specs.Storage.{Held, unset, term, Handler, Leaving, ends_body, Storage, Frame, After, on, pick, up, over, Ended, done, unfinished, Mode, plain, tail, jump, tests, Around, in_window, go_on, when, if_some, outside, kept}
 use Rattle.ssa_form.specs.Operations.{held, all_held, put, forgotten, follows, leaving, does}
 
 -- what was raised, and the handler that takes it
@@ -32,9 +33,10 @@ mode_of d xs as' l = plain
 
 -- The first sets of a block where a raise lands: three `landing`, for class, reason and trace, or a `catch_end`.
 
-abbrev pub is_tag : ℕ → List Arg → Bool
-is_tag v (var w ∷ []) = eqb v w
-is_tag v _ = false
+-- the only operand is the variable that names a handler
+abbrev pub reads_tag : ℕ → List Arg → Bool
+reads_tag v (var w ∷ []) = eqb v w
+reads_tag v _ = false
 
 abbrev pub is_landing : Op → Bool
 is_landing landing = true
@@ -49,10 +51,10 @@ none_before [] = true
 none_before (a ∷ as') = false
 
 abbrev pub lands : ℕ → Set → Bool
-lands v x = is_landing x.op && is_tag v x.args && none_before x.before
+lands v x = is_landing x.op && reads_tag v x.args && none_before x.before
 
 abbrev pub ends_catch : ℕ → Set → Bool
-ends_catch v x = is_catch_end x.op && is_tag v x.args && none_before x.before
+ends_catch v x = is_catch_end x.op && reads_tag v x.args && none_before x.before
 
 -- Lasts.
 
@@ -201,7 +203,7 @@ module _ {S : Type 0} (o : Storage S) (around : Around) (here : Here) where
   blocks b zero e from n f s = unfinished
   blocks b (suc k) e from n f s = block_does (block_at b n) (blocks b k) e from n f s
 
-  abbrev pub body_run : Body → ℕ → S → List Context → State → Ended
+  abbrev pub body_run : Body → ℕ → S → List MatchContext → State → Ended
   body_run b k st cs s = blocks b k None 0 0 (record { store = st; contexts = cs; save = 0; window = None }) s
 
 -- With a value for each variable. Handlers from the inside out.
@@ -258,7 +260,7 @@ all_terms [] = []
 all_terms (t ∷ ts) = term t ∷ all_terms ts
 
 -- with these arguments, at most k blocks
-unfoldable pub ssa_run : Around → Here → Body → ℕ → List Held → List Context → State → Ended
+unfoldable pub ssa_run : Around → Here → Body → ℕ → List Held → List MatchContext → State → Ended
 unfolding blocks
 ssa_run around here b k hs cs s = body_run in_vars around here b k (record { values = params_hold b.params hs; handlers = [] }) cs s
 

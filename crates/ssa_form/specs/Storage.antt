@@ -4,6 +4,7 @@ use Rattle.std.specs.Prelude.{ℕ, List, Bool, true, false, Option, Some, None}
 use Rattle.erl_term.specs.Term.{Term, Class}
 use Rattle.world_model.specs.World.{Message}
 use Rattle.world_model.specs.Run.{State, Outcome}
+use Rattle.step_machine.specs.Frames.{MatchContext}
 use Rattle.ssa_form.specs.Ssa.{FrameAction}
 
 -- What a variable holds. A context names an object that its copies share.
@@ -11,11 +12,6 @@ pub data Held : Type 0 where
   unset : Held
   term : Term → Held
   context position marker : ℕ → Held
-
--- a bit string that is being matched, and how many of its bits were taken
-pub record Context : Type 0 where
-  pub bits : List Bool
-  pub at : ℕ
 
 -- an open handler: the variable that names it, and the block where a raise lands
 pub record Handler : Type 0 where
@@ -46,7 +42,7 @@ pub record Storage (S : Type 0) : Type 0 where
 -- save: how many messages stand before the save place; window: the message that is looked at and not yet taken
 pub record Frame (S : Type 0) : Type 0 where
   pub store : S
-  pub contexts : List Context
+  pub contexts : List MatchContext
   pub save : ℕ
   pub window : Option Message
 

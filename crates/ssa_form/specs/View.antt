@@ -6,7 +6,7 @@ use Rattle.erl_base.specs.declared.ids.NodeId.{NodeId}
 use Rattle.erl_base.specs.declared.ids.BlockId.{BlockId}
 use Rattle.erl_term.specs.View.{view}
 use Rattle.erl_term.specs.Segments.{Shape}
-use Rattle.bif_table.specs.View.{bif_view}
+use Rattle.bif_table.specs.View.{bif_view, type_view, comparison_view}
 use Rattle.ssa_form.specs.declared.args.Arg as Code
 use Rattle.ssa_form.specs.declared.args.Arg.TheVariants as A
 use Rattle.ssa_form.specs.declared.op.Check.{Check}
@@ -31,28 +31,8 @@ abbrev pub var_number : VarId → ℕ
 var_number v = v.0
 
 abbrev pub check_view : Check → Plain.Check
-check_view C.IsAtom = Plain.is_atom
-check_view C.IsInteger = Plain.is_integer
-check_view C.IsNumber = Plain.is_number
-check_view C.IsList = Plain.is_list
-check_view C.IsNonemptyList = Plain.is_nonempty_list
-check_view C.IsNil = Plain.is_nil
-check_view C.IsTuple = Plain.is_tuple
-check_view C.IsBinary = Plain.is_binary
-check_view C.IsBitstr = Plain.is_bitstr
-check_view C.IsBoolean = Plain.is_boolean
-check_view C.IsFunction = Plain.is_function
-check_view C.IsMap = Plain.is_map
-check_view C.IsPid = Plain.is_pid
-check_view C.IsPort = Plain.is_port
-check_view C.IsReference = Plain.is_reference
-check_view C.IsEqExact = Plain.is_eq_exact
-check_view C.IsNeExact = Plain.is_ne_exact
-check_view C.IsEq = Plain.is_eq
-check_view C.IsNe = Plain.is_ne
-check_view C.IsLt = Plain.is_lt
-check_view C.IsGe = Plain.is_ge
-check_view C.IsFunction2 = Plain.is_function2
+check_view (C.Test t) = Plain.test (type_view t)
+check_view (C.Compare c) = Plain.compares (comparison_view c)
 check_view (C.TestArity n) = Plain.test_arity n
 check_view (C.IsTaggedTuple n a) = Plain.is_tagged_tuple n a
 check_view C.HasMapFields = Plain.has_map_fields

@@ -1,15 +1,16 @@
 -- Well-formed bodies.
-use Rattle.std.specs.Prelude.{◌≡◌, ◌≢◌, ℕ, List, [], ◌∷◌, ◌++◌, Some, None, Option, IsTrue, IsFalse, Bool, true, false, not, ◌&&◌, ◌||◌, eqb, leb, length, if◌then◌else◌}
+use Rattle.std.specs.Prelude.{◌≡◌, ◌≢◌, ℕ, List, [], ◌∷◌, ◌++◌, Some, None, Option, IsTrue, IsFalse, Bool, true, false, not, ◌&&◌, ◌||◌, eqb, leb, length, if◌then◌else◌, slice_get}
+use Rattle.erl_base.specs.Lists.{among}
 use Rattle.ssa_form.specs.Ssa.{Arg, Op, try_end, landing, catch_end, call_local, Set, Last, succeeded, ret, Phi, Block, Body, block_at}
 use Rattle.ssa_form.specs.Storage.{Handler, Mode}
-use Rattle.ssa_form.specs.SsaRun.{is_tag, from_edge, lands, ends_catch}
-use Rattle.ssa_form.specs.Values.{takes}
-use Rattle.ssa_form.specs.SetFacts.{dst_vars, among, all_among, none_among, in_form, breaks_cycle, is_peek, is_try_start, may_raise}
-use Rattle.ssa_form.specs.Flow.{Place, place, set_at, last_at, phis_at, phi_vars, Effect, Step, Way, Reached, Leads, Passing}
+use Rattle.ssa_form.specs.SsaRun.{reads_tag, from_edge, lands, ends_catch}
+use Rattle.world_model.specs.RemoteCalls.{takes}
+use Rattle.ssa_form.specs.SetFacts.{dst_vars, all_among, none_among, in_form, breaks_cycle, is_peek, is_try_start, may_raise}
+use Rattle.ssa_form.specs.Flow.{Point, point, set_at, last_at, phis_at, phi_vars, Effect, Step, Way, Reached, Leads, Passing}
 use Rattle.ssa_form.specs.Liveness.{used_at, values_at, lands_first}
 use Rattle.ssa_form.specs.ReceiveWindow.{WindowRule}
 
--- Each variable is set at one place.
+-- Each variable is set at one point.
 
 abbrev pub chain_sets : List Set → List ℕ
 chain_sets [] = []
@@ -76,7 +77,7 @@ is_landing_for v (Some x) = lands_for v x.chain
 
 abbrev pub closes_first : Op → List Arg → List Handler → Bool
 closes_first try_end as' [] = false
-closes_first try_end as' (h ∷ hs) = is_tag h.tag as'
+closes_first try_end as' (h ∷ hs) = reads_tag h.tag as'
 closes_first op as' hs = true
 
 abbrev pub is_ret : Last → Bool
@@ -101,42 +102,42 @@ lands_early op k first = true
 
 -- the block is entered by raises alone
 abbrev pub IsLandingOnly : Body → ℕ → Type 0
-IsLandingOnly b n = (p : Place) (hs is' : List Handler) (e : Effect) → Reached b p hs → Step b p hs (place n 0) is' e
+IsLandingOnly b n = (p : Point) (hs is' : List Handler) (e : Effect) → Reached b p hs → Step b p hs (point n 0) is' e
     → (h : Handler) × (hs ≡ h ∷ is') × (h.landing ≡ n)
 
 pub record WellFormed (b : Body) : Type 0 where
   pub sets_once : SetsOnce b
   -- every set has its operands, is taken by its last as it may be, and has the destination that it needs
-  pub in_form : (p : Place) (hs : List Handler) (x : Set) (m : Mode) → Reached b p hs → set_at b p ≡ Some (x, m) → IsTrue (in_form m x)
-  -- on every way to a place, what is read there was set; and what phis read along an edge
-  pub available : (p : Place) (vs : List ℕ) (hs : List Handler) → Way b p vs hs → IsTrue (all_among (used_at b p) vs)
-  pub edges : (p q : Place) (vs : List ℕ) (hs is' : List Handler) (e : Effect) → Way b p vs hs → Step b p hs q is' e → IsTrue (all_among e.reads (e.sets ++ vs))
+  pub in_form : (p : Point) (hs : List Handler) (x : Set) (m : Mode) → Reached b p hs → set_at b p ≡ Some (x, m) → IsTrue (in_form m x)
+  -- on every way to a point, what is read there was set; and what phis read along an edge
+  pub available : (p : Point) (vs : List ℕ) (hs : List Handler) → Way b p vs hs → IsTrue (all_among (used_at b p) vs)
+  pub edges : (p q : Point) (vs : List ℕ) (hs is' : List Handler) (e : Effect) → Way b p vs hs → Step b p hs q is' e → IsTrue (all_among e.reads (e.sets ++ vs))
   -- no tag is read as a value
-  pub values : (p : Place) (hs : List Handler) → Reached b p hs → IsTrue (none_among (values_at b p) (tags_in b.blocks))
-  pub edge_values : (p q : Place) (hs is' : List Handler) (e : Effect) → Reached b p hs → Step b p hs q is' e → IsTrue (none_among e.reads (tags_in b.blocks))
+  pub values : (p : Point) (hs : List Handler) → Reached b p hs → IsTrue (none_among (values_at b p) (tags_in b.blocks))
+  pub edge_values : (p q : Point) (hs is' : List Handler) (e : Effect) → Reached b p hs → Step b p hs q is' e → IsTrue (none_among e.reads (tags_in b.blocks))
   pub phis : (n m : ℕ) → Leads b n m → IsTrue (have_edges (phis_at b m) n)
   -- ways lead to blocks that are there, and a last that tests has a set to test
   pub starts : block_at b 0 ≢ None
   -- the first block is entered by no edge where the body begins, so it has no phis
   pub no_phis : phis_at b 0 ≡ []
   pub leads_on : (n m : ℕ) → Leads b n m → block_at b m ≢ None
-  pub tested : (p : Place) (hs : List Handler) → Reached b p hs → IsTrue (tests_nothing (last_at b p))
+  pub tested : (p : Point) (hs : List Handler) → Reached b p hs → IsTrue (tests_nothing (last_at b p))
   -- handlers close from the inside out, and none is open where a body ends
-  pub closes : (p : Place) (hs : List Handler) (x : Set) (m : Mode) → Reached b p hs → set_at b p ≡ Some (x, m) → IsTrue (closes_first x.op x.args hs)
-  pub ends : (p : Place) (hs : List Handler) (l : Last) → Reached b p hs → last_at b p ≡ Some l → IsTrue (is_ret l) → hs ≡ []
+  pub closes : (p : Point) (hs : List Handler) (x : Set) (m : Mode) → Reached b p hs → set_at b p ≡ Some (x, m) → IsTrue (closes_first x.op x.args hs)
+  pub ends : (p : Point) (hs : List Handler) (l : Last) → Reached b p hs → last_at b p ≡ Some l → IsTrue (is_ret l) → hs ≡ []
   -- raises lead to landing blocks of their handler, and nothing else leads to one
-  pub lands : (p : Place) (h : Handler) (hs : List Handler) (x : Set) (m : Mode) → Reached b p (h ∷ hs) → set_at b p ≡ Some (x, m) → IsTrue (may_raise m x.op) → IsTrue (is_landing_for h.tag (block_at b h.landing))
-  pub enters : (n : ℕ) (hs : List Handler) → Reached b (place n 0) hs → IsTrue (lands_first (set_at b (place n 0))) → IsLandingOnly b n
+  pub lands : (p : Point) (h : Handler) (hs : List Handler) (x : Set) (m : Mode) → Reached b p (h ∷ hs) → set_at b p ≡ Some (x, m) → IsTrue (may_raise m x.op) → IsTrue (is_landing_for h.tag (block_at b h.landing))
+  pub enters : (n : ℕ) (hs : List Handler) → Reached b (point n 0) hs → IsTrue (lands_first (set_at b (point n 0))) → IsLandingOnly b n
   -- no code stands on the way of a raise, so nothing is chosen there by a phi
-  pub bare : (n : ℕ) → IsTrue (lands_first (set_at b (place n 0))) → phis_at b n ≡ []
-  pub early : (p : Place) (hs : List Handler) (x : Set) (m : Mode) → Reached b p hs → set_at b p ≡ Some (x, m) → IsTrue (lands_early x.op p.done (lands_first (set_at b (place p.block 0))))
+  pub bare : (n : ℕ) → IsTrue (lands_first (set_at b (point n 0))) → phis_at b n ≡ []
+  pub early : (p : Point) (hs : List Handler) (x : Set) (m : Mode) → Reached b p hs → set_at b p ≡ Some (x, m) → IsTrue (lands_early x.op p.done (lands_first (set_at b (point p.block 0))))
   pub cycles : CycleRule b
   pub windows : WindowRule b
 
 -- every local call has as many arguments as its function has parameters
 abbrev pub call_fits : List ℕ → Op → ℕ → Bool
-call_fits as' (call_local n) k = takes as' n k
+call_fits as' (call_local n) k = takes (slice_get as' n) k
 call_fits as' op k = true
 
 abbrev pub CallsFit : List ℕ → Body → Type 0
-CallsFit as' b = (p : Place) (hs : List Handler) (x : Set) (m : Mode) → Reached b p hs → set_at b p ≡ Some (x, m) → IsTrue (call_fits as' x.op (length x.args))
+CallsFit as' b = (p : Point) (hs : List Handler) (x : Set) (m : Mode) → Reached b p hs → set_at b p ≡ Some (x, m) → IsTrue (call_fits as' x.op (length x.args))

@@ -2,35 +2,15 @@
 ghost use Rattle.std.specs.Prelude.{◌≡◌, IfOk};
 
 use crate::args::Args;
-use bif_table::Bif;
+use bif_table::{Bif, Comparison, TypeTest};
 use erl_base::{Duplicate, List, Name, NoMemory, SiteId, VarId};
 use std::alloc::Global;
 
 /// A test of the machine, by its name there.
 #[derive(Debug, Drop)]
 pub enum Check {
-    IsAtom,
-    IsInteger,
-    IsNumber,
-    IsList,
-    IsNonemptyList,
-    IsNil,
-    IsTuple,
-    IsBinary,
-    IsBitstr,
-    IsBoolean,
-    IsFunction,
-    IsMap,
-    IsPid,
-    IsPort,
-    IsReference,
-    IsEqExact,
-    IsNeExact,
-    IsEq,
-    IsNe,
-    IsLt,
-    IsGe,
-    IsFunction2,
+    Test(TypeTest),
+    Compare(Comparison),
     TestArity(u32),
     IsTaggedTuple(u32, Name),
     HasMapFields,
@@ -107,28 +87,8 @@ impl Check {
         ensures { IfOk result (λ copy. copy ≡ self.now) }
     {
         match self {
-            Check::IsAtom => Ok(Check::IsAtom),
-            Check::IsInteger => Ok(Check::IsInteger),
-            Check::IsNumber => Ok(Check::IsNumber),
-            Check::IsList => Ok(Check::IsList),
-            Check::IsNonemptyList => Ok(Check::IsNonemptyList),
-            Check::IsNil => Ok(Check::IsNil),
-            Check::IsTuple => Ok(Check::IsTuple),
-            Check::IsBinary => Ok(Check::IsBinary),
-            Check::IsBitstr => Ok(Check::IsBitstr),
-            Check::IsBoolean => Ok(Check::IsBoolean),
-            Check::IsFunction => Ok(Check::IsFunction),
-            Check::IsMap => Ok(Check::IsMap),
-            Check::IsPid => Ok(Check::IsPid),
-            Check::IsPort => Ok(Check::IsPort),
-            Check::IsReference => Ok(Check::IsReference),
-            Check::IsEqExact => Ok(Check::IsEqExact),
-            Check::IsNeExact => Ok(Check::IsNeExact),
-            Check::IsEq => Ok(Check::IsEq),
-            Check::IsNe => Ok(Check::IsNe),
-            Check::IsLt => Ok(Check::IsLt),
-            Check::IsGe => Ok(Check::IsGe),
-            Check::IsFunction2 => Ok(Check::IsFunction2),
+            Check::Test(test) => Ok(Check::Test(*test)),
+            Check::Compare(test) => Ok(Check::Compare(*test)),
             Check::TestArity(size) => Ok(Check::TestArity(*size)),
             Check::IsTaggedTuple(size, name) => {
                 Ok(Check::IsTaggedTuple(*size, name.copy(alloc)?))

@@ -3,3 +3,4 @@ pub mod RunFacts
 pub mod Bodies
 pub mod EntryBound
 pub mod Follows
+pub mod Frames

@@ -26,25 +26,31 @@ planned s = s.failing
 abbrev pub NextFails : FaultyStore → Type 0
 NextFails s = Contains s.failing s.calls
 
--- how many faults of reading, and of writing, were counted
+-- how many faults of reading were counted
 abbrev pub read_count : FaultyStore → ℕ
 read_count s = s.read_faults
 
+-- how many faults of writing were counted
 abbrev pub write_count : FaultyStore → ℕ
 write_count s = s.write_faults
 
+-- how many faults the sink counted
 abbrev pub put_faults : FaultySink → ℕ
 put_faults s = s.faults
 
+-- the bytes that the sink in memory has
 abbrev pub held_bytes : FaultySink → List ℕ
 held_bytes s = put_bytes s.inner
 
+-- the room of the sink in memory
 abbrev pub held_room : FaultySink → ℕ
 held_room s = sink_room s.inner
 
+-- how many puts were made so far
 abbrev pub sink_calls : FaultySink → ℕ
 sink_calls s = s.calls
 
+-- the numbers of the puts that fail
 abbrev pub sink_planned : FaultySink → List ℕ
 sink_planned s = s.failing
 

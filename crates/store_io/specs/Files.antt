@@ -9,6 +9,13 @@ Files = List ℕ → Option (List ℕ)
 abbrev pub Rooms : Type 0
 Rooms = List ℕ → Option ℕ
 
+-- what a store tells: its files and rooms, if it tells them, and how many faults of reading and of writing it counted
+pub record Told : Type 0 where
+  pub files : Option Files
+  pub rooms : Option Rooms
+  pub read_faults : ℕ
+  pub write_faults : ℕ
+
 -- what is told before is told after, and stands so
 abbrev pub Alike : {A : Type 0} → Option A → Option A → (A → A → Type 0) → Type 0
 Alike None None P = Unit {0}
@@ -34,6 +41,7 @@ abbrev pub IsPartAt : List ℕ → ℕ → List ℕ → ℕ → Type 0
 IsPartAt bytes at piece n =
     (n ≤ length bytes) × (take n piece ≡ take n (drop at bytes)) × (0 < length piece → (n ≡ 0) ↔ (length bytes ≤ at))
 
+-- a part of the file was loaded, and there is one; after a refusal nothing is said
 abbrev pub Loads : {E : Type 0} → Option (List ℕ) → ℕ → List ℕ → Result ℕ E → Type 0
 Loads None at piece (Ok n) = ⊥
 Loads (Some bytes) at piece (Ok n) = IsPartAt bytes at piece n

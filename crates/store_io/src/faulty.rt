@@ -58,24 +58,26 @@ fn fails(failing: &CallNumbers, number: u64) -> bool
 }
 
 impl Store for FaultyStore {
-    ghost files = { λ s. Some (held_files s) };
-
-    ghost rooms = { λ s. None };
-
-    ghost read_faults = { λ s. s.read_faults };
-
-    ghost write_faults = { λ s. s.write_faults };
+    ghost told = { λ s. record {
+      files = Some (held_files s);
+      rooms = None;
+      read_faults = s.read_faults;
+      write_faults = s.write_faults;
+    } };
 
     ghost rooms_with_files = { λ s told. refl };
 
     fn load(&mut self, name: &str, at: u64, piece: &mut [u8]) -> Result<usize, Failed>
         ensures within { IfOk result (λ n. n ≤ length piece.new) }
-        ensures files { Same (held_files self.old) (held_files self.new) × Loads (held_files self.old name.now) at piece.new result }
+        ensures files { Same (held_files self.old) (held_files self.new)
+            × Loads (held_files self.old name.now) at piece.new result }
         ensures reads { read_count self.old ≤ read_count self.new }
         ensures writes { write_count self.new ≡ write_count self.old }
-        ensures failed { OnErr result (Rose (read_count self.old) (read_count self.new) ⊎ (held_files self.old name.now ≡ None)) }
+        ensures failed { OnErr result (Rose (read_count self.old) (read_count self.new)
+            ⊎ (held_files self.old name.now ≡ None)) }
         ensures fails { NextFails self.old → IsErr result × Rose (read_count self.old) (read_count self.new) }
-        ensures works { ¬ NextFails self.old → (IsErr result ↔ (held_files self.old name.now ≡ None)) × (read_count self.new ≡ read_count self.old) }
+        ensures works { ¬ NextFails self.old → (IsErr result ↔ (held_files self.old name.now ≡ None))
+            × (read_count self.new ≡ read_count self.old) }
         ensures plan { planned self.new ≡ planned self.old }
         ensures calls { store_calls self.new ≡ min (store_calls self.old + 1) (2 ^ 64 - 1) }
         ensures kept_rooms { Same (held_rooms self.old) (held_rooms self.new) }
@@ -90,7 +92,8 @@ impl Store for FaultyStore {
     }
 
     fn create(&mut self, name: &str) -> Result<(), Failed>
-        ensures files { OthersStay name.now (held_files self.old) (held_files self.new) × Creates result (held_files self.old name.now) (held_files self.new name.now) }
+        ensures files { OthersStay name.now (held_files self.old) (held_files self.new)
+            × Creates result (held_files self.old name.now) (held_files self.new name.now) }
         ensures reads { read_count self.new ≡ read_count self.old }
         ensures writes { write_count self.old ≤ write_count self.new }
         ensures failed { OnErr result (Rose (write_count self.old) (write_count self.new)) }
@@ -118,12 +121,14 @@ impl Store for FaultyStore {
     fn append(&mut self, name: &str, piece: &[u8]) -> Result<usize, Failed>
         ensures within { IfOk result (λ n. n ≤ length piece.now) }
         ensures takes { IfOk result (λ n. 0 < length piece.now → 0 < n) }
-        ensures files { OthersStay name.now (held_files self.old) (held_files self.new) × Appends piece.now result (held_files self.old name.now) (held_files self.new name.now) }
+        ensures files { OthersStay name.now (held_files self.old) (held_files self.new)
+            × Appends piece.now result (held_files self.old name.now) (held_files self.new name.now) }
         ensures reads { read_count self.new ≡ read_count self.old }
         ensures writes { write_count self.old ≤ write_count self.new }
         ensures failed { OnErr result (Rose (write_count self.old) (write_count self.new)) }
         ensures fails { NextFails self.old → IsErr result × Same (held_files self.old) (held_files self.new) }
-        ensures works { ¬ NextFails self.old → (IsErr result ↔ HasNoRoom (held_rooms self.old name.now) (held_files self.old name.now) piece.now) }
+        ensures works { ¬ NextFails self.old →
+            (IsErr result ↔ HasNoRoom (held_rooms self.old name.now) (held_files self.old name.now) piece.now) }
         ensures plan { planned self.new ≡ planned self.old }
         ensures calls { store_calls self.new ≡ min (store_calls self.old + 1) (2 ^ 64 - 1) }
         ensures kept_rooms { Same (held_rooms self.old) (held_rooms self.new) }
@@ -189,7 +194,8 @@ impl Sink for FaultySink {
         ensures faults { put_faults self.old ≤ put_faults self.new }
         ensures failed { OnErr result (Rose (put_faults self.old) (put_faults self.new)) }
         ensures fails { NextPutFails self.old → IsErr result × (held_bytes self.new ≡ held_bytes self.old) }
-        ensures works { ¬ NextPutFails self.old → (IsErr result ↔ ((piece.now ≢ []) × (held_room self.old ≤ length (held_bytes self.old)))) }
+        ensures works { ¬ NextPutFails self.old →
+            (IsErr result ↔ ((piece.now ≢ []) × (held_room self.old ≤ length (held_bytes self.old)))) }
         ensures plan { sink_planned self.new ≡ sink_planned self.old }
         ensures calls { sink_calls self.new ≡ min (sink_calls self.old + 1) (2 ^ 64 - 1) }
         ensures kept_room { held_room self.new ≡ held_room self.old }

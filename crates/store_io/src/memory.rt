@@ -35,7 +35,8 @@ impl MemoryStore {
     pub fn reserve(&mut self, name: &str, n: u64) -> Result<(), NoMemory>
         ensures files { Same (told_files self.old) (told_files self.new) }
         ensures others { OthersStay name.now (told_rooms self.old) (told_rooms self.new) }
-        ensures ok { OnOk result (told_rooms self.new name.now ≡ Some (max (room_of (told_rooms self.old name.now)) n)) }
+        ensures ok { OnOk result (told_rooms self.new name.now ≡ Some
+            (max (room_of (told_rooms self.old name.now)) n)) }
         ensures err { OnErr result (Same (told_rooms self.old) (told_rooms self.new)) }
         ensures count { write_count self.new ≡ write_count self.old }
     {
@@ -67,7 +68,8 @@ impl MemoryStore {
         ensures others { OthersStay name.now (told_files self.old) (told_files self.new) }
         ensures other_rooms { OthersStay name.now (told_rooms self.old) (told_rooms self.new) }
         ensures ok { OnOk result (told_files self.new name.now ≡ Some bytes.now) }
-        ensures room { OnOk result (told_rooms self.new name.now ≡ Some (max (room_of (told_rooms self.old name.now)) (length bytes.now))) }
+        ensures room { OnOk result (told_rooms self.new name.now ≡ Some
+            (max (room_of (told_rooms self.old name.now)) (length bytes.now))) }
         ensures err { OnErr result (Same (told_files self.old) (told_files self.new)) }
         ensures err_rooms { OnErr result (Same (told_rooms self.old) (told_rooms self.new)) }
         ensures count { write_count self.new ≡ write_count self.old }
@@ -93,13 +95,12 @@ impl MemoryStore {
 }
 
 impl Store for MemoryStore {
-    ghost files = { λ s. Some (told_files s) };
-
-    ghost rooms = { λ s. Some (told_rooms s) };
-
-    ghost read_faults = { λ s. 0 };
-
-    ghost write_faults = { λ s. s.write_faults };
+    ghost told = { λ s. record {
+      files = Some (told_files s);
+      rooms = Some (told_rooms s);
+      read_faults = 0;
+      write_faults = s.write_faults;
+    } };
 
     ghost rooms_with_files = { λ s told. refl };
 
@@ -126,13 +127,16 @@ impl Store for MemoryStore {
     fn append(&mut self, name: &str, piece: &[u8]) -> Result<usize, Failed>
         ensures within { IfOk result (λ n. n ≤ length piece.now) }
         ensures takes { IfOk result (λ n. 0 < length piece.now → 0 < n) }
-        ensures files { OthersStay name.now (told_files self.old) (told_files self.new) × Appends piece.now result (told_files self.old name.now) (told_files self.new name.now) }
+        ensures files { OthersStay name.now (told_files self.old) (told_files self.new)
+            × Appends piece.now result (told_files self.old name.now) (told_files self.new name.now) }
         ensures rooms { Same (told_rooms self.old) (told_rooms self.new) }
         ensures writes { write_count self.old ≤ write_count self.new }
         ensures failed { OnErr result (Rose (write_count self.old) (write_count self.new)) }
-        ensures room { IsErr result ↔ HasNoRoom (told_rooms self.old name.now) (told_files self.old name.now) piece.now }
+        ensures room { IsErr result
+            ↔ HasNoRoom (told_rooms self.old name.now) (told_files self.old name.now) piece.now }
         ensures err { OnErr result (Same (told_files self.old) (told_files self.new)) }
-        ensures fits { IfOk result (λ n. n ≡ min (length piece.now) (room_of (told_rooms self.old name.now) - length (content (told_files self.old name.now)))) }
+        ensures fits { IfOk result (λ n. n ≡ min (length piece.now)
+            (room_of (told_rooms self.old name.now) - length (content (told_files self.old name.now)))) }
     {
         match self.slots.get_mut(name) {
             Some(slot) => match slot.append(piece) {

@@ -64,7 +64,8 @@ impl Sink for MemorySink {
         ensures failed { OnErr result (Rose (sink_faults self.old) (sink_faults self.new)) }
         ensures full { IsErr result ↔ ((piece.now ≢ []) × (sink_room self.old ≤ length (put_bytes self.old))) }
         ensures err { OnErr result (put_bytes self.new ≡ put_bytes self.old) }
-        ensures fits { IfOk result (λ n. n ≡ min (length piece.now) (sink_room self.old - length (put_bytes self.old))) }
+        ensures fits { IfOk result
+            (λ n. n ≡ min (length piece.now) (sink_room self.old - length (put_bytes self.old))) }
         ensures room { sink_room self.new ≡ sink_room self.old }
     {
         match self.slot.append(piece) {

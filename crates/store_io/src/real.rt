@@ -126,13 +126,7 @@ fn write_on<R: Files>(
 }
 
 impl<R: Files + Drop> Store for RealStore<R> {
-    ghost files = { λ s. None };
-
-    ghost rooms = { λ s. None };
-
-    ghost read_faults = { λ s. s.read_faults };
-
-    ghost write_faults = { λ s. s.write_faults };
+    ghost told = { λ s. record { files = None; rooms = None; read_faults = s.read_faults; write_faults = s.write_faults } };
 
     ghost rooms_with_files = { λ s told. told };
 

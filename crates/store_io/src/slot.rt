@@ -88,7 +88,8 @@ impl Slot {
     /// Adds what still fits. It fails exactly where nothing of a piece fits.
     pub fn append(&mut self, piece: &[u8]) -> Result<usize, Failed>
         ensures file { Appends piece.now result (file_of self.old) (file_of self.new) }
-        ensures count { IfOk result (λ n. n ≡ min (length piece.now) (self.old.room - length (content (file_of self.old)))) }
+        ensures count { IfOk result
+            (λ n. n ≡ min (length piece.now) (self.old.room - length (content (file_of self.old)))) }
         ensures takes { IfOk result (λ n. 0 < length piece.now → 0 < n) }
         ensures failed { IsErr result ↔ ((piece.now ≢ []) × (self.old.room ≤ length (content (file_of self.old)))) }
         ensures err { OnErr result (file_of self.new ≡ file_of self.old) }

@@ -28,13 +28,15 @@ pub enum LoadFault {
 /// Makes the file hold these bytes. Each append is given the next 4,096 of them, or all that are left if they are
 /// fewer.
 pub fn store_all<S: Store>(store: &mut S, name: &str, bytes: &[u8]) -> Result<(), Failed>
-    requires { (s : S) → (done : ℕ) → done < length bytes.now → S.may_append s name.now (take 4096 (drop done bytes.now)) }
-    ensures files { Alike (S.files store.old) (S.files store.new) (λ old new. OthersStay name.now old new × Stores bytes.now result (old name.now) (new name.now)) }
-    ensures rooms { Alike (S.rooms store.old) (S.rooms store.new) Same }
-    ensures reads { S.read_faults store.new ≡ S.read_faults store.old }
-    ensures writes { S.write_faults store.old ≤ S.write_faults store.new }
-    ensures failed { OnErr result (Rose (S.write_faults store.old) (S.write_faults store.new)) }
-    ensures no_room { IfSome (S.rooms store.old) (λ r. OnErr result (LacksRoom (r name.now) bytes.now)) }
+    requires { (s : S) → (done : ℕ) → done < length bytes.now
+        → S.may_append s name.now (take 4096 (drop done bytes.now)) }
+    ensures files { Alike (S.told store.old).files (S.told store.new).files (λ old new.
+        OthersStay name.now old new × Stores bytes.now result (old name.now) (new name.now)) }
+    ensures rooms { Alike (S.told store.old).rooms (S.told store.new).rooms Same }
+    ensures reads { (S.told store.new).read_faults ≡ (S.told store.old).read_faults }
+    ensures writes { (S.told store.old).write_faults ≤ (S.told store.new).write_faults }
+    ensures failed { OnErr result (Rose (S.told store.old).write_faults (S.told store.new).write_faults) }
+    ensures no_room { IfSome (S.told store.old).rooms (λ r. OnErr result (LacksRoom (r name.now) bytes.now)) }
 {
     store.create(name)?;
     let mut done = 0;
@@ -67,16 +69,20 @@ pub fn put_all<O: Sink>(sink: &mut O, bytes: &[u8]) -> Result<(), Failed>
 
 /// Reads a whole file, of at most 16,777,216 bytes.
 pub fn load_all<S: Store>(alloc: Global, store: &mut S, name: &str) -> Result<List<u8>, LoadFault>
-    ensures files { Alike (S.files store.old) (S.files store.new) Same }
-    ensures bytes { IfOk result (λ bytes. IfSome (S.files store.old) (λ f. f name.now ≡ Some bytes)) }
+    ensures files { Alike (S.told store.old).files (S.told store.new).files Same }
+    ensures bytes { IfOk result (λ bytes. IfSome (S.told store.old).files (λ f. f name.now ≡ Some bytes)) }
     ensures size { IfOk result (λ bytes. length bytes ≤ MAX_FILE) }
-    ensures reads { S.read_faults store.old ≤ S.read_faults store.new }
-    ensures writes { S.write_faults store.new ≡ S.write_faults store.old }
-    ensures rooms { Alike (S.rooms store.old) (S.rooms store.new) Same }
-    ensures failed { result ≡ Err LoadFault.Failed → Rose (S.read_faults store.old) (S.read_faults store.new) ⊎ IsSomeAnd (S.files store.old) (λ f. f name.now ≡ None) }
-    ensures absent { IfSome (S.files store.old) (λ f. f name.now ≡ None → result ≡ Err LoadFault.Failed) }
-    ensures count { IfSome (S.rooms store.old) (λ r. S.read_faults store.new ≡ S.read_faults store.old) }
-    ensures too_large { result ≡ Err LoadFault.TooLarge → IfSome (S.files store.old) (λ f. (bytes : _) × (f name.now ≡ Some bytes) × (MAX_FILE < length bytes)) }
+    ensures reads { (S.told store.old).read_faults ≤ (S.told store.new).read_faults }
+    ensures writes { (S.told store.new).write_faults ≡ (S.told store.old).write_faults }
+    ensures rooms { Alike (S.told store.old).rooms (S.told store.new).rooms Same }
+    ensures failed { result ≡ Err LoadFault.Failed
+        → Rose (S.told store.old).read_faults (S.told store.new).read_faults
+        ⊎ IsSomeAnd (S.told store.old).files (λ f. f name.now ≡ None) }
+    ensures absent { IfSome (S.told store.old).files (λ f. f name.now ≡ None → result ≡ Err LoadFault.Failed) }
+    ensures count { IfSome (S.told store.old).rooms
+        (λ r. (S.told store.new).read_faults ≡ (S.told store.old).read_faults) }
+    ensures too_large { result ≡ Err LoadFault.TooLarge → IfSome (S.told store.old).files (λ f.
+        (bytes : _) × (f name.now ≡ Some bytes) × (MAX_FILE < length bytes)) }
 {
     let mut bytes = Vec::new(alloc);
     let mut piece = [0u8; 4096];

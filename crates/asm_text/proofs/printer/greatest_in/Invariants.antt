@@ -1,7 +1,7 @@
 use Rattle.std.proofs.Common.{◌≡◌, map, drop, max}
 use Rattle.beam_table.specs.View.{insn_view}
 use Rattle.beam_table.specs.ValidModule.{labels_in}
-use Rattle.asm_text.specs.AssemblyText.{greatest}
+use Rattle.beam_table.specs.ModuleForms.{greatest}
 use Rattle.asm_text.proofs.printer.greatest_in.Given as goal
 
 abbrev pub invariant-loop-insn : goal.invariant-loop-insn

@@ -1,7 +1,7 @@
 use Rattle.std.proofs.Common.{◌≡◌, map, drop, max}
 use Rattle.beam_table.specs.View.{fun_view}
 use Rattle.beam_table.specs.ValidModule.{all_labels}
-use Rattle.asm_text.specs.AssemblyText.{greatest}
+use Rattle.beam_table.specs.ModuleForms.{greatest}
 use Rattle.asm_text.proofs.printer.greatest_label.Given as goal
 
 abbrev pub invariant-loop-function : goal.invariant-loop-function

@@ -2,7 +2,7 @@ use Rattle.std.proofs.Common.{◌≡◌, ℕ, List, ◌++◌, map, drop}
 use Rattle.erl_term.specs.Term as T
 use Rattle.erl_term.specs.Terms.{list_of}
 use Rattle.term_text.specs.TermText.{rest_on}
-use Rattle.asm_text.specs.AssemblyText.{key_term}
+use Rattle.beam_table.specs.ModuleForms.{key_term}
 use Rattle.asm_text.proofs.printer.put_others.Given as goal
 
 abbrev pub invariant-loop-key : goal.invariant-loop-key

@@ -7,12 +7,12 @@ abbrev pub invariant-loop-count : goal.invariant-loop-count
 invariant-loop-count g l =
     record {
       size : vec_len l.bytes ≤ 16777216;
-      files : Alike (g.S.Store.files l.fn.store) (g.S.Store.files l.store) Same;
-      read : IfSome (g.S.Store.files l.fn.store) (λ f. HasRead l.bytes.items (f l.name));
-      rooms : Alike (g.S.Store.rooms l.fn.store) (g.S.Store.rooms l.store) Same;
-      count : IfSome (g.S.Store.rooms l.fn.store) (λ r. g.S.Store.read_faults l.store ≡ g.S.Store.read_faults l.fn.store);
-      reads : g.S.Store.read_faults l.fn.store ≤ g.S.Store.read_faults l.store;
-      writes : g.S.Store.write_faults l.store ≡ g.S.Store.write_faults l.fn.store;
+      files : Alike (g.S.Store.told l.fn.store).files (g.S.Store.told l.store).files Same;
+      read : IfSome (g.S.Store.told l.fn.store).files (λ f. HasRead l.bytes.items (f l.name));
+      rooms : Alike (g.S.Store.told l.fn.store).rooms (g.S.Store.told l.store).rooms Same;
+      count : IfSome (g.S.Store.told l.fn.store).rooms (λ r. (g.S.Store.told l.store).read_faults ≡ (g.S.Store.told l.fn.store).read_faults);
+      reads : (g.S.Store.told l.fn.store).read_faults ≤ (g.S.Store.told l.store).read_faults;
+      writes : (g.S.Store.told l.store).write_faults ≡ (g.S.Store.told l.fn.store).write_faults;
     }
 
 abbrev pub decreases-loop-count : goal.decreases-loop-count

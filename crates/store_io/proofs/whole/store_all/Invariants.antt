@@ -6,11 +6,11 @@ abbrev pub invariant-loop-done : goal.invariant-loop-done
 invariant-loop-done g l =
     record {
       within : l.done ≤ length l.bytes;
-      files : Alike (g.S.Store.files l.fn.store) (g.S.Store.files l.store)
+      files : Alike (g.S.Store.told l.fn.store).files (g.S.Store.told l.store).files
           (λ old new. OthersStay l.name old new × (new l.name ≡ Some (take l.done l.bytes)));
-      rooms : Alike (g.S.Store.rooms l.fn.store) (g.S.Store.rooms l.store) Same;
-      reads : g.S.Store.read_faults l.store ≡ g.S.Store.read_faults l.fn.store;
-      writes : g.S.Store.write_faults l.fn.store ≤ g.S.Store.write_faults l.store;
+      rooms : Alike (g.S.Store.told l.fn.store).rooms (g.S.Store.told l.store).rooms Same;
+      reads : (g.S.Store.told l.store).read_faults ≡ (g.S.Store.told l.fn.store).read_faults;
+      writes : (g.S.Store.told l.fn.store).write_faults ≤ (g.S.Store.told l.store).write_faults;
     }
 
 abbrev pub decreases-loop-done : goal.decreases-loop-done

@@ -1,0 +1,48 @@
+//! Measures calls over a file, for `bin/bench`: `measure tokens FILE` tells how many tokens a text has, `measure term FILE`
+//! how many bytes the printed text of a term has. With `timed` in front it tells what each step took, in microseconds, and
+//! what the system says of the process, which has the most memory that it took (`VmHWM`).
+#![tactic(auto)]
+
+mod clock;
+mod terms;
+mod tokens;
+
+use clock::Clock;
+use std::env;
+use std::io;
+
+const USAGE: &str = "usage: measure [timed] tokens FILE, measure [timed] term FILE";
+
+fn measured(rt: &HostRuntime, subject: &str, clock: &mut Clock, text: &[u8]) -> io::Result<()> {
+    match subject {
+        "tokens" => tokens::measure(rt, clock, text),
+        "term" => terms::measure(rt, clock, text),
+        _ => {
+            println!(rt; "{USAGE}")?;
+            Ok(())
+        }
+    }
+}
+
+fn main(rt: HostRuntime) -> io::Result<()> {
+    let words: Vec<String> = env::args(&rt)?.collect(rt.alloc())?;
+    match words.as_slice() {
+        [_, subject, file] => {
+            let text = std::fs::read(&rt, file.as_str())?;
+            measured(&rt, subject.as_str(), &mut Clock::silent(), text.as_slice())
+        }
+        [_, timed, subject, file] if timed.as_str() == "timed" => {
+            let mut clock = Clock::started(&rt)?;
+            let text = std::fs::read(&rt, file.as_str())?;
+            clock.tell(&rt, "load")?;
+            measured(&rt, subject.as_str(), &mut clock, text.as_slice())?;
+            let process = std::fs::read_to_string(&rt, "/proc/self/status")?;
+            print!(rt; "{process}")?;
+            Ok(())
+        }
+        _ => {
+            println!(rt; "{USAGE}")?;
+            Ok(())
+        }
+    }
+}
