@@ -1,75 +1,80 @@
 -- The laws of the definition of the tokens.
-use Rattle.std.proofs.Common.{◌≡◌, ℕ, ◌≤◌, Bool, true, false, cond, ◌||◌, Some, List, length, take, refl, ap, sym, ◌∙◌, arith}
+use Rattle.std.proofs.Common.{◌≡◌, ℕ, ◌≤◌, Option, None, Some, List, length, take, refl, ap, sym, ◌∙◌, arith}
+use Rattle.core_lex.specs.declared.token.Symbol as Symbols
 use Rattle.core_lex.specs.declared.token.TokenKind.TheVariants.{Symbol}
-use Rattle.core_lex.specs.Tokens.{Lexeme, bad, is_one_of, long_symbols, short_symbols, symbol_at}
+use Rattle.core_lex.specs.Tokens.{of_kind, bad, listed_as, long_symbols, short_symbols, symbol_of, symbol_at}
 use Rattle.core_lex.specs.TokenLaws.{Begins, IsLongestSymbol}
 use Rattle.core_lex.proofs.Sizes.{long_length, short_length}
 
 -- ---- the longest symbol
 
-first_choice : (a b : Bool) (x y z : Lexeme) → a ≡ true → cond a x (cond b y z) ≡ x
-first_choice a b x y z e = ap (λ v. cond v x (cond b y z)) e
+-- a symbol stands where its characters are listed
+long_stands : (cs s : List ℕ) (x : Symbols.Symbol) → listed_as long_symbols s ≡ Some x → take (length s) cs ≡ s → take 2 cs ≡ s
+long_stands cs s x e f = ap (λ n. take n cs) (sym (long_length s x e)) ∙ f
 
-second_choice : (a b : Bool) (x y z : Lexeme) → a ≡ false → b ≡ true → cond a x (cond b y z) ≡ y
-second_choice a b x y z e f = ap (λ v. cond v x (cond b y z)) e ∙ ap (λ v. cond v y z) f
+short_stands : (cs s : List ℕ) (x : Symbols.Symbol) → listed_as short_symbols s ≡ Some x → take (length s) cs ≡ s → take 1 cs ≡ s
+short_stands cs s x e f = ap (λ n. take n cs) (sym (short_length s x e)) ∙ f
 
-third_choice : (a b : Bool) (x y z : Lexeme) → a ≡ false → b ≡ false → cond a x (cond b y z) ≡ z
-third_choice a b x y z e f = ap (λ v. cond v x (cond b y z)) e ∙ ap (λ v. cond v y z) f
+-- of two choices the first that is there
+abbrev chosen : Option Symbols.Symbol → Option Symbols.Symbol → Option Symbols.Symbol
+chosen a b = elim a [ None ↦ b | Some symbol ↦ Some symbol ]
 
--- a long symbol stands where the first two characters are listed
-long_stands : (cs s : List ℕ) → is_one_of long_symbols s ≡ true → take (length s) cs ≡ s → take 2 cs ≡ s
-long_stands cs s e f = ap (λ n. take n cs) (sym (long_length s e)) ∙ f
+first_chosen : (a b : Option Symbols.Symbol) (x : Symbols.Symbol) → a ≡ Some x → chosen a b ≡ Some x
+first_chosen a b x e = ap (λ o. chosen o b) e
 
-short_stands : (cs s : List ℕ) → is_one_of short_symbols s ≡ true → take (length s) cs ≡ s → take 1 cs ≡ s
-short_stands cs s e f = ap (λ n. take n cs) (sym (short_length s e)) ∙ f
+second_chosen : (a b : Option Symbols.Symbol) (x : Symbols.Symbol) → a ≡ None → b ≡ Some x → chosen a b ≡ Some x
+second_chosen a b x e f = ap (λ o. chosen o b) e ∙ f
 
-listed_left : (a b : Bool) → a ≡ true → a || b ≡ true
-listed_left a b e = ap (λ v. v || b) e
-
-listed_right : (a b : Bool) → b ≡ true → a || b ≡ true
-listed_right true b e = refl
-listed_right false b e = e
-
-begins_long : (cs : List ℕ) → is_one_of long_symbols (take 2 cs) ≡ true → Begins cs (take 2 cs)
-begins_long cs e = record {
-  listed = listed_left (is_one_of long_symbols (take 2 cs)) (is_one_of short_symbols (take 2 cs)) e;
-  stands = ap (λ n. take n cs) (long_length (take 2 cs) e);
+begins_long : (cs : List ℕ) (x : Symbols.Symbol) → listed_as long_symbols (take 2 cs) ≡ Some x → Begins cs (take 2 cs) x
+begins_long cs x e = record {
+  listed = first_chosen (listed_as long_symbols (take 2 cs)) (listed_as short_symbols (take 2 cs)) x e;
+  stands = ap (λ n. take n cs) (long_length (take 2 cs) x e);
 }
 
-begins_short : (cs : List ℕ) → is_one_of short_symbols (take 1 cs) ≡ true → Begins cs (take 1 cs)
-begins_short cs e = record {
-  listed = listed_right (is_one_of long_symbols (take 1 cs)) (is_one_of short_symbols (take 1 cs)) e;
-  stands = ap (λ n. take n cs) (short_length (take 1 cs) e);
+-- of the symbols that are listed in one table none is in the other, since their lengths differ
+not_long : (s : List ℕ) (x : Symbols.Symbol) (o : Option Symbols.Symbol) → listed_as short_symbols s ≡ Some x → listed_as long_symbols s ≡ o → o ≡ None
+not_long s x None e f = refl
+not_long s x (Some y) e f = absurd (omega (arith, long_length s y f, short_length s x e))
+
+begins_short : (cs : List ℕ) (x : Symbols.Symbol) → listed_as short_symbols (take 1 cs) ≡ Some x → Begins cs (take 1 cs) x
+begins_short cs x e = record {
+  listed = second_chosen (listed_as long_symbols (take 1 cs)) (listed_as short_symbols (take 1 cs)) x (not_long (take 1 cs) x (listed_as long_symbols (take 1 cs)) e refl) e;
+  stands = ap (λ n. take n cs) (short_length (take 1 cs) x e);
 }
 
-no_long : (cs s : List ℕ) (b : Bool) → is_one_of long_symbols (take 2 cs) ≡ b → length s ≡ 1 → ((t : List ℕ) → Begins cs t → length t ≤ length s) → b ≡ false
-no_long cs s true e one longest = let two = longest (take 2 cs) (begins_long cs e) in absurd (omega (arith, two, long_length (take 2 cs) e))
-no_long cs s false e one longest = refl
+-- where no longer symbol stands, none of two characters does
+no_long : (cs s : List ℕ) (o : Option Symbols.Symbol) → listed_as long_symbols (take 2 cs) ≡ o → length s ≡ 1
+    → ((t : List ℕ) (y : Symbols.Symbol) → Begins cs t y → length t ≤ length s) → o ≡ None
+no_long cs s None e one longest = refl
+no_long cs s (Some y) e one longest =
+    let two = longest (take 2 cs) y (begins_long cs y e) in absurd (omega (arith, two, long_length (take 2 cs) y e))
 
-none_false : (cs s : List ℕ) (b : Bool) → (b ≡ true → Begins cs s) → ((t : List ℕ) → Begins cs t → ⊥) → b ≡ false
-none_false cs s true f none = absurd (none s (f refl))
-none_false cs s false f none = refl
+none_there : (cs t : List ℕ) (o : Option Symbols.Symbol) → ((y : Symbols.Symbol) → o ≡ Some y → Begins cs t y)
+    → ((s : List ℕ) (y : Symbols.Symbol) → Begins cs s y → ⊥) → o ≡ None
+none_there cs t None f none = refl
+none_there cs t (Some y) f none = absurd (none t y (f y refl))
 
-longest_by : (cs s : List ℕ) (a b : Bool) → is_one_of long_symbols s ≡ a → is_one_of short_symbols s ≡ b → a || b ≡ true → take (length s) cs ≡ s
-    → ((t : List ℕ) → Begins cs t → length t ≤ length s) → symbol_at cs ≡ (Some (Symbol s), length s)
+longest_by : (cs s : List ℕ) (x : Symbols.Symbol) (o : Option Symbols.Symbol) → listed_as long_symbols s ≡ o
+    → chosen o (listed_as short_symbols s) ≡ Some x → take (length s) cs ≡ s
+    → ((t : List ℕ) (y : Symbols.Symbol) → Begins cs t y → length t ≤ length s) → symbol_at cs ≡ of_kind (Symbol x) (length s)
 unfolding symbol_at
-longest_by cs s true b e f g stands longest =
-    let here : take 2 cs ≡ s = long_stands cs s e stands in
-    first_choice (is_one_of long_symbols (take 2 cs)) (is_one_of short_symbols (take 1 cs)) (Some (Symbol (take 2 cs)), 2) (Some (Symbol (take 1 cs)), 1) bad (ap (is_one_of long_symbols) here ∙ e)
-    ∙ ap (λ t. let x : Lexeme = (Some (Symbol t), 2) in x) here ∙ ap (λ n. let x : Lexeme = (Some (Symbol s), n) in x) (sym (long_length s e))
-longest_by cs s false true e f g stands longest =
-    let here : take 1 cs ≡ s = short_stands cs s f stands in
-    second_choice (is_one_of long_symbols (take 2 cs)) (is_one_of short_symbols (take 1 cs)) (Some (Symbol (take 2 cs)), 2) (Some (Symbol (take 1 cs)), 1) bad (no_long cs s (is_one_of long_symbols (take 2 cs)) refl (short_length s f) longest) (ap (is_one_of short_symbols) here ∙ f)
-    ∙ ap (λ t. let x : Lexeme = (Some (Symbol t), 1) in x) here ∙ ap (λ n. let x : Lexeme = (Some (Symbol s), n) in x) (sym (short_length s f))
-longest_by cs s false false e f g stands longest = absurd cc
+longest_by cs s x (Some y) e g stands longest =
+    let f : listed_as long_symbols s ≡ Some x = e ∙ g in
+    ap (λ o. symbol_of o 2 (symbol_of (listed_as short_symbols (take 1 cs)) 1 bad)) (ap (listed_as long_symbols) (long_stands cs s x f stands) ∙ f)
+    ∙ ap (of_kind (Symbol x)) (sym (long_length s x f))
+longest_by cs s x None e g stands longest =
+    ap (λ o. symbol_of o 2 (symbol_of (listed_as short_symbols (take 1 cs)) 1 bad)) (no_long cs s (listed_as long_symbols (take 2 cs)) refl (short_length s x g) longest)
+    ∙ ap (λ o. symbol_of o 1 bad) (ap (listed_as short_symbols) (short_stands cs s x g stands) ∙ g)
+    ∙ ap (of_kind (Symbol x)) (sym (short_length s x g))
 
 -- the longest symbol is taken
-pub longest_taken : (cs s : List ℕ) → IsLongestSymbol cs s → symbol_at cs ≡ (Some (Symbol s), length s)
-longest_taken cs s l = longest_by cs s (is_one_of long_symbols s) (is_one_of short_symbols s) refl refl l.begins.listed l.begins.stands l.longest
+pub longest_taken : (cs s : List ℕ) (x : Symbols.Symbol) → IsLongestSymbol cs s x → symbol_at cs ≡ of_kind (Symbol x) (length s)
+longest_taken cs s x l = longest_by cs s x (listed_as long_symbols s) refl l.begins.listed l.begins.stands l.longest
 
 -- where none stands the token is bad
-pub no_symbol : (cs : List ℕ) → ((s : List ℕ) → Begins cs s → ⊥) → symbol_at cs ≡ bad
+pub no_symbol : (cs : List ℕ) → ((s : List ℕ) (y : Symbols.Symbol) → Begins cs s y → ⊥) → symbol_at cs ≡ bad
 unfolding symbol_at
-no_symbol cs none = third_choice (is_one_of long_symbols (take 2 cs)) (is_one_of short_symbols (take 1 cs)) (Some (Symbol (take 2 cs)), 2) (Some (Symbol (take 1 cs)), 1) bad
-    (none_false cs (take 2 cs) (is_one_of long_symbols (take 2 cs)) (begins_long cs) none)
-    (none_false cs (take 1 cs) (is_one_of short_symbols (take 1 cs)) (begins_short cs) none)
+no_symbol cs none =
+    ap (λ o. symbol_of o 2 (symbol_of (listed_as short_symbols (take 1 cs)) 1 bad))
+    (none_there cs (take 2 cs) (listed_as long_symbols (take 2 cs)) (begins_long cs) none)
+    ∙ ap (λ o. symbol_of o 1 bad) (none_there cs (take 1 cs) (listed_as short_symbols (take 1 cs)) (begins_short cs) none)

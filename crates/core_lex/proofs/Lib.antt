@@ -1,4 +1,5 @@
 pub mod Closing
 pub mod Cut
+pub mod Numbers
 pub mod Scanning
 pub mod Sizes

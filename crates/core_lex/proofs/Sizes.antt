@@ -1,14 +1,16 @@
 -- How many characters write a lexeme: at least one, and no more than there are.
-use Rattle.std.proofs.Common.{◌≡◌, ℕ, suc, ◌+◌, ◌<◌, ◌≤◌, Bool, true, false, ◌&&◌, ◌||◌, nat_le, eqb, Option, Some, None, List, [], ◌∷◌, length, take, drop, take_while, refl, ap, sym, ◌∙◌, arith, length-take, length-drop, bytes_eq}
+use Rattle.std.proofs.Common.{◌≡◌, ℕ, suc, ◌+◌, ◌<◌, ◌≤◌, Bool, true, false, ◌&&◌, ◌||◌, nat_le, eqb, Option, Some, None, List, [], ◌∷◌, length, take, drop, take_while, refl, ap, sym, ◌∙◌, arith, length-take, length-drop, bytes_eq, if◌then◌else◌}
 use Rattle.std.proofs.lemmas.Bool.Decides.{nat_tests}
 use Rattle.std.specs.Cmp.Lexicographic.{same_text}
 use Rattle.core_lex.specs.declared.token.TokenKind.{TokenKind}
-use Rattle.core_lex.specs.declared.token.TokenKind.TheVariants.{Atom, Letters}
+use Rattle.core_lex.specs.declared.token.Lexeme.{Lexeme}
+use Rattle.core_lex.specs.declared.token.Symbol as Symbols
+use Rattle.core_lex.specs.declared.token.TokenKind.TheVariants.{Word, Atom, Letters}
 use Rattle.core_chars.specs.Characters.{is_blank, is_lower, is_digit, is_capital, is_name_char, is_in_line, is_sign, is_exponent_mark, first_is}
 use Rattle.core_chars.specs.Escapes.{quoted_char}
 use Rattle.core_chars.specs.Quoted.{quoted_text}
 use Rattle.core_chars.proofs.Sizes.{either, run_fits, not_empty, run_begins, second_true, CharFits, char_fits, TextFits, quoted_fits}
-use Rattle.core_lex.specs.Tokens.{Lexeme, bad, words, long_symbols, short_symbols, is_one_of, name_len, word_at, variable_at, symbol_at, sign_len, begins_number, exponent_len, fraction_len, number_at, quoted_lexeme, atom_at, string_at, character_lexeme, character_at, comment_at, lexeme_at}
+use Rattle.core_lex.specs.Tokens.{of_kind, bad, words, long_symbols, short_symbols, listed_as, symbol_of, name_len, word_at, variable_at, symbol_at, sign_len, begins_number, exponent_len, fraction_len, number_at, quoted_lexeme, atom_at, string_at, character_lexeme, character_at, comment_at, lexeme_at}
 use Rattle.core_lex.specs.TokenLaws.{IsWithin}
 
 bad_within : (n : ℕ) → 0 < n → IsWithin n bad
@@ -21,8 +23,10 @@ name_fits p cs h = omega (arith, run_fits p (drop 1 cs), length-drop 1 cs)
 
 word_within : (cs : List ℕ) → 0 < length cs → IsWithin (length cs) (word_at cs)
 unfolding word_at
-word_within cs h = either (IsWithin (length cs)) (is_one_of words (take (name_len cs) cs)) _ _
-    (λ _. record { positive = omega arith; fits = name_fits is_name_char cs h }) (λ _. bad_within (length cs) h)
+word_within cs h = elim (listed_as words (take (name_len cs) cs)) as (λ o. IsWithin (length cs) (elim o [ None ↦ bad | Some word ↦ of_kind (Word word) (name_len cs) ])) [
+  | None ↦ bad_within (length cs) h
+  | Some word ↦ record { positive = omega arith; fits = name_fits is_name_char cs h }
+]
 
 variable_within : (cs : List ℕ) → 0 < length cs → IsWithin (length cs) (variable_at cs)
 unfolding variable_at
@@ -33,34 +37,42 @@ unfolding comment_at
 comment_within cs h = record { positive = omega arith; fits = name_fits is_in_line cs h }
 
 -- each text of the table has n characters
-abbrev pub AllOf : ℕ → List (List ℕ) → Type 0
+abbrev pub AllOf : {A : Type 0} → ℕ → List (List ℕ × A) → Type 0
 AllOf n [] = Unit {0}
-AllOf n (t ∷ ts) = (length t ≡ n) × AllOf n ts
+AllOf n (t ∷ ts) = (length t.0 ≡ n) × AllOf n ts
 
-listed_by : (n : ℕ) (s t : List ℕ) (b later : Bool) → bytes_eq s t ≡ b → length t ≡ n → (later ≡ true → length s ≡ n) → b || later ≡ true → length s ≡ n
-listed_by n s t true later f size rest g = let same : s ≡ t = same_text s t (sym f) in ap length same ∙ size
-listed_by n s t false later f size rest g = rest g
+listed_by : {A : Type 0} (n : ℕ) (s t : List ℕ) (x y : A) (b : Bool) (later : Option A) → bytes_eq s t ≡ b → length t ≡ n
+    → (later ≡ Some x → length s ≡ n) → (if b then Some y else later) ≡ Some x → length s ≡ n
+listed_by n s t x y true later f size rest g = let same : s ≡ t = same_text s t (sym f) in ap length same ∙ size
+listed_by n s t x y false later f size rest g = rest g
 
-pub length_listed : (n : ℕ) (table : List (List ℕ)) (s : List ℕ) → AllOf n table → is_one_of table s ≡ true → length s ≡ n
-length_listed n [] s all e = absurd cc
-length_listed n (t ∷ ts) s all e = listed_by n s t (bytes_eq s t) (is_one_of ts s) refl all.0 (length_listed n ts s all.1) e
+length_listed : {A : Type 0} (n : ℕ) (table : List (List ℕ × A)) (s : List ℕ) (x : A) → AllOf n table → listed_as table s ≡ Some x → length s ≡ n
+length_listed n [] s x all e = absurd cc
+length_listed n (t ∷ ts) s x all e = listed_by n s t.0 x t.1 (bytes_eq s t.0) (listed_as ts s) refl all.0 (length_listed n ts s x all.1) e
 
-pub long_length : (s : List ℕ) → is_one_of long_symbols s ≡ true → length s ≡ 2
-long_length s e = length_listed 2 long_symbols s (refl, (refl, (refl, (refl, (refl, (refl, (refl, (refl, (refl, tt))))))))) e
+pub long_length : (s : List ℕ) (x : Symbols.Symbol) → listed_as long_symbols s ≡ Some x → length s ≡ 2
+long_length s x e = length_listed 2 long_symbols s x (refl, (refl, (refl, (refl, (refl, (refl, (refl, (refl, (refl, tt))))))))) e
 
-pub short_length : (s : List ℕ) → is_one_of short_symbols s ≡ true → length s ≡ 1
-short_length s e = length_listed 1 short_symbols s (refl, (refl, (refl, (refl, (refl, (refl, (refl, (refl, (refl, (refl, (refl, (refl, (refl, tt))))))))))))) e
+pub short_length : (s : List ℕ) (x : Symbols.Symbol) → listed_as short_symbols s ≡ Some x → length s ≡ 1
+short_length s x e = length_listed 1 short_symbols s x (refl, (refl, (refl, (refl, (refl, (refl, (refl, (refl, (refl, (refl, (refl, (refl, (refl, tt))))))))))))) e
+
+long_within : (cs : List ℕ) (otherwise : Lexeme) (o : Option Symbols.Symbol) → listed_as long_symbols (take 2 cs) ≡ o
+    → IsWithin (length cs) otherwise → IsWithin (length cs) (symbol_of o 2 otherwise)
+long_within cs otherwise None e h = h
+long_within cs otherwise (Some x) e h =
+    record { positive = omega arith; fits = omega (arith, long_length (take 2 cs) x e, length-take 2 cs) }
+
+short_within : (cs : List ℕ) (o : Option Symbols.Symbol) → 0 < length cs → IsWithin (length cs) (symbol_of o 1 bad)
+short_within cs None h = bad_within (length cs) h
+short_within cs (Some x) h = record { positive = omega arith; fits = omega arith }
 
 symbol_within : (cs : List ℕ) → 0 < length cs → IsWithin (length cs) (symbol_at cs)
 unfolding symbol_at
-symbol_within cs h = either (IsWithin (length cs)) (is_one_of long_symbols (take 2 cs)) _ _
-    (λ e. record { positive = omega arith; fits = omega (arith, long_length (take 2 cs) e, length-take 2 cs) })
-    (λ _. either (IsWithin (length cs)) (is_one_of short_symbols (take 1 cs)) _ _
-    (λ _. record { positive = omega arith; fits = h }) (λ _. bad_within (length cs) h))
+symbol_within cs h = long_within cs _ (listed_as long_symbols (take 2 cs)) refl (short_within cs (listed_as short_symbols (take 1 cs)) h)
 
 -- ---- numbers
 
-sign_fits : (cs : List ℕ) → sign_len cs ≤ length cs
+pub sign_fits : (cs : List ℕ) → sign_len cs ≤ length cs
 sign_fits cs = either (λ n. n ≤ length cs) (first_is is_sign cs) 1 0 (λ e. not_empty is_sign cs e) (λ _. omega arith)
 
 exponent_fits : (cs : List ℕ) → exponent_len cs ≤ length cs

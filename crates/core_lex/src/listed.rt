@@ -1,38 +1,63 @@
 // The words and the symbols, by tables, and variables.
 ghost use Rattle.std.specs.Prelude.{◌≡◌, ◌<◌, ◌≤◌, length, IfOk, bytes_eq, map};
 ghost use Rattle.core_lex.specs.LexerState.{IsNotEnd};
-ghost use Rattle.core_lex.specs.Tokens.{is_one_of, words, long_symbols, short_symbols, word_at, variable_at, symbol_at, bad};
+ghost use Rattle.core_lex.specs.Tokens.{listed_as, words, long_symbols, short_symbols, word_at, variable_at, symbol_at, bad};
 
-use crate::token::TokenKind;
+use crate::token::{Lexeme, Symbol, TokenKind, Word};
 use core_chars::{name_in, name_len};
 use erl_base::{NoMemory, front};
 use std::alloc::Global;
 
-const WORDS: [&str; 18] = [
-    "after",
-    "apply",
-    "attributes",
-    "call",
-    "case",
-    "catch",
-    "do",
-    "end",
-    "fun",
-    "in",
-    "let",
-    "letrec",
-    "module",
-    "of",
-    "primop",
-    "receive",
-    "try",
-    "when",
+/// Each word by its spelling.
+pub const WORDS: [(&str, Word); 18] = [
+    ("after", Word::After),
+    ("apply", Word::Apply),
+    ("attributes", Word::Attributes),
+    ("call", Word::Call),
+    ("case", Word::Case),
+    ("catch", Word::Catch),
+    ("do", Word::Do),
+    ("end", Word::End),
+    ("fun", Word::Fun),
+    ("in", Word::In),
+    ("let", Word::Let),
+    ("letrec", Word::Letrec),
+    ("module", Word::Module),
+    ("of", Word::Of),
+    ("primop", Word::Primop),
+    ("receive", Word::Receive),
+    ("try", Word::Try),
+    ("when", Word::When),
 ];
 
-const LONG_SYMBOLS: [&str; 9] = ["->", "-|", "=>", ":=", "#{", "}#", "#<", "~{", "}~"];
+/// The symbols of two characters.
+pub const LONG_SYMBOLS: [(&str, Symbol); 9] = [
+    ("->", Symbol::Arrow),
+    ("-|", Symbol::AnnotationBar),
+    ("=>", Symbol::Association),
+    (":=", Symbol::ExactAssociation),
+    ("#{", Symbol::OpenBinary),
+    ("}#", Symbol::CloseBinary),
+    ("#<", Symbol::OpenSegment),
+    ("~{", Symbol::OpenMap),
+    ("}~", Symbol::CloseMap),
+];
 
-const SHORT_SYMBOLS: [&str; 13] = [
-    "(", ")", "{", "}", "[", "]", "<", ">", "|", ",", "/", ":", "=",
+/// The symbols of one character.
+pub const SHORT_SYMBOLS: [(&str, Symbol); 13] = [
+    ("(", Symbol::OpenParen),
+    (")", Symbol::CloseParen),
+    ("{", Symbol::OpenBrace),
+    ("}", Symbol::CloseBrace),
+    ("[", Symbol::OpenBracket),
+    ("]", Symbol::CloseBracket),
+    ("<", Symbol::OpenAngle),
+    (">", Symbol::CloseAngle),
+    ("|", Symbol::Bar),
+    (",", Symbol::Comma),
+    ("/", Symbol::Slash),
+    (":", Symbol::Colon),
+    ("=", Symbol::Equals),
 ];
 
 // The spelling is of ASCII characters.
@@ -50,94 +75,98 @@ fn is_spelled(text: &[char], spelling: &[u8]) -> bool
     true
 }
 
-fn is_one_of(table: &[&str], text: &[char]) -> bool
-    ensures { result ≡ is_one_of (map (λ s. s.now) table.now) text.now }
+fn listed_as<T: Copy + Drop>(table: &[(&str, T)], text: &[char]) -> Option<T>
+    ensures { result ≡ listed_as (map (λ row. (row.0.now, row.1)) table.now) text.now }
 {
-    for spelling in table {
+    for (spelling, meaning) in table {
         if is_spelled(text, spelling.as_bytes()) {
-            return true;
+            return Some(*meaning);
         }
     }
-    false
+    None
 }
 
-fn is_word(text: &[char]) -> bool
-    ensures { result ≡ is_one_of words text.now }
+fn word_of(text: &[char]) -> Option<Word>
+    ensures { result ≡ listed_as words text.now }
 {
-    is_one_of(&WORDS, text)
+    listed_as(&WORDS, text)
 }
 
-fn is_long_symbol(text: &[char]) -> bool
-    ensures { result ≡ is_one_of long_symbols text.now }
+fn long_symbol(text: &[char]) -> Option<Symbol>
+    ensures { result ≡ listed_as long_symbols text.now }
 {
-    is_one_of(&LONG_SYMBOLS, text)
+    listed_as(&LONG_SYMBOLS, text)
 }
 
-fn is_short_symbol(text: &[char]) -> bool
-    ensures { result ≡ is_one_of short_symbols text.now }
+fn short_symbol(text: &[char]) -> Option<Symbol>
+    ensures { result ≡ listed_as short_symbols text.now }
 {
-    is_one_of(&SHORT_SYMBOLS, text)
+    listed_as(&SHORT_SYMBOLS, text)
 }
 
 #[tactic(auto, unfolding(crate::specs::Tokens::word_at))]
-pub fn word(
-    alloc: Global,
-    spelled: &mut String,
-    rest: &[char],
-) -> Result<(Option<TokenKind>, usize), NoMemory>
+pub fn word(rest: &[char]) -> Lexeme
     requires { 0 < length rest.now }
-    ensures value { IfOk result (λ lexeme. lexeme ≡ word_at rest.now) }
-    ensures positive { IfOk result (λ lexeme. 0 < lexeme.1) }
-    ensures fits { IfOk result (λ lexeme. lexeme.1 ≤ length rest.now) }
-    ensures not_end { IfOk result (λ lexeme. IsNotEnd lexeme.0) }
+    ensures value { result ≡ word_at rest.now }
+    ensures positive { 0 < result.size }
+    ensures fits { result.size ≤ length rest.now }
+    ensures not_end { IsNotEnd result.kind }
 {
     let size = 1 + name_len(&rest[1..]);
-    let name = &rest[..size];
-    if is_word(name) {
-        Ok((Some(TokenKind::Word(name_in(alloc, spelled, name)?)), size))
-    } else {
-        Ok((Some(TokenKind::Bad), 1))
+    match word_of(&rest[..size]) {
+        None => bad(),
+        Some(word) => Lexeme {
+            kind: Some(TokenKind::Word(word)),
+            size,
+        },
     }
 }
 
 #[tactic(auto, unfolding(crate::specs::Tokens::variable_at))]
-pub fn variable(
-    alloc: Global,
-    spelled: &mut String,
-    rest: &[char],
-) -> Result<(Option<TokenKind>, usize), NoMemory>
+pub fn variable(alloc: Global, spelled: &mut String, rest: &[char]) -> Result<Lexeme, NoMemory>
     requires { 0 < length rest.now }
     ensures value { IfOk result (λ lexeme. lexeme ≡ variable_at rest.now) }
-    ensures positive { IfOk result (λ lexeme. 0 < lexeme.1) }
-    ensures fits { IfOk result (λ lexeme. lexeme.1 ≤ length rest.now) }
-    ensures not_end { IfOk result (λ lexeme. IsNotEnd lexeme.0) }
+    ensures positive { IfOk result (λ lexeme. 0 < lexeme.size) }
+    ensures fits { IfOk result (λ lexeme. lexeme.size ≤ length rest.now) }
+    ensures not_end { IfOk result (λ lexeme. IsNotEnd lexeme.kind) }
 {
     let size = 1 + name_len(&rest[1..]);
-    Ok((
-        Some(TokenKind::Variable(name_in(alloc, spelled, &rest[..size])?)),
+    let name = name_in(alloc, spelled, &rest[..size])?;
+    Ok(Lexeme {
+        kind: Some(TokenKind::Variable(name)),
         size,
-    ))
+    })
 }
 
 #[tactic(auto, unfolding(crate::specs::Tokens::symbol_at))]
-pub fn symbol(
-    alloc: Global,
-    spelled: &mut String,
-    rest: &[char],
-) -> Result<(Option<TokenKind>, usize), NoMemory>
+pub fn symbol(rest: &[char]) -> Lexeme
     requires { 0 < length rest.now }
-    ensures value { IfOk result (λ lexeme. lexeme ≡ symbol_at rest.now) }
-    ensures positive { IfOk result (λ lexeme. 0 < lexeme.1) }
-    ensures fits { IfOk result (λ lexeme. lexeme.1 ≤ length rest.now) }
-    ensures not_end { IfOk result (λ lexeme. IsNotEnd lexeme.0) }
+    ensures value { result ≡ symbol_at rest.now }
+    ensures positive { 0 < result.size }
+    ensures fits { result.size ≤ length rest.now }
+    ensures not_end { IsNotEnd result.kind }
 {
-    let long = front(rest, 2);
-    if is_long_symbol(long) {
-        return Ok((Some(TokenKind::Symbol(name_in(alloc, spelled, long)?)), 2));
+    if let Some(symbol) = long_symbol(front(rest, 2)) {
+        return Lexeme {
+            kind: Some(TokenKind::Symbol(symbol)),
+            size: 2,
+        };
     }
-    let short = front(rest, 1);
-    if is_short_symbol(short) {
-        return Ok((Some(TokenKind::Symbol(name_in(alloc, spelled, short)?)), 1));
+    match short_symbol(front(rest, 1)) {
+        None => bad(),
+        Some(symbol) => Lexeme {
+            kind: Some(TokenKind::Symbol(symbol)),
+            size: 1,
+        },
     }
-    Ok((Some(TokenKind::Bad), 1))
+}
+
+/// A bad token: one character.
+pub fn bad() -> Lexeme
+    ensures { result ≡ bad }
+{
+    Lexeme {
+        kind: Some(TokenKind::Bad),
+        size: 1,
+    }
 }

@@ -3,7 +3,7 @@ ghost use Rattle.std.specs.Prelude.{◌≡◌, ◌<◌, ◌≤◌, length, true}
 ghost use Rattle.core_lex.specs.LexerState.{IsNotEnd};
 ghost use Rattle.core_lex.specs.Tokens.{sign_len, begins_number, exponent_len, fraction_len, integer_of, number_at, is_bad, is_last};
 
-use crate::token::TokenKind;
+use crate::token::{Lexeme, TokenKind};
 use core_chars::{
     CEILING, digits_len, is_digit, is_exponent_mark, is_sign, magnitude_of, negative,
 };
@@ -16,12 +16,12 @@ fn integer(minus: bool, signed: bool, digits: &[char]) -> TokenKind
     let magnitude = magnitude_of(digits);
     if minus {
         if magnitude < CEILING {
-            TokenKind::Number(negative(magnitude), signed)
+            TokenKind::Number(signed, negative(magnitude))
         } else {
             TokenKind::Wide(digits.len() as u64)
         }
     } else if magnitude < CEILING - 1 {
-        TokenKind::Number(magnitude as i128, signed)
+        TokenKind::Number(signed, magnitude as i128)
     } else {
         TokenKind::Wide(digits.len() as u64)
     }
@@ -75,19 +75,25 @@ fn fraction_len(rest: &[char]) -> usize
 }
 
 #[tactic(auto, unfolding(crate::specs::Tokens::number_at))]
-pub fn number(rest: &[char]) -> (Option<TokenKind>, usize)
+pub fn number(rest: &[char]) -> Lexeme
     requires { begins_number rest.now ≡ true }
     ensures value { result ≡ number_at rest.now }
-    ensures positive { 0 < result.1 }
-    ensures fits { result.1 ≤ length rest.now }
-    ensures not_end { IsNotEnd result.0 }
+    ensures positive { 0 < result.size }
+    ensures fits { result.size ≤ length rest.now }
+    ensures not_end { IsNotEnd result.kind }
 {
     let signs = sign_len(rest);
     let whole = signs + digits_len(&rest[signs..]);
     let fraction = fraction_len(&rest[whole..]);
     if fraction > 0 {
-        return (Some(TokenKind::Float), whole + fraction);
+        return Lexeme {
+            kind: Some(TokenKind::Float),
+            size: whole + fraction,
+        };
     }
     let minus = signs == 1 && rest[0] == '-';
-    (Some(integer(minus, signs == 1, &rest[signs..whole])), whole)
+    Lexeme {
+        kind: Some(integer(minus, signs == 1, &rest[signs..whole])),
+        size: whole,
+    }
 }

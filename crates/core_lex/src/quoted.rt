@@ -3,7 +3,8 @@ ghost use Rattle.std.specs.Prelude.{◌≡◌, ◌<◌, ◌≤◌, length, IfOk}
 ghost use Rattle.core_lex.specs.LexerState.{IsNotEnd};
 ghost use Rattle.core_lex.specs.Tokens.{atom_at, string_at, character_at};
 
-use crate::token::{Codes, TokenKind};
+use crate::listed::bad;
+use crate::token::{Codes, Lexeme, TokenKind};
 use core_chars::{name_in, quoted_char, quoted_in};
 use erl_base::{List, NoMemory};
 use std::alloc::Global;
@@ -24,53 +25,58 @@ pub fn atom(
     spelled: &mut String,
     unquoted: &mut Vec<char>,
     rest: &[char],
-) -> Result<(Option<TokenKind>, usize), NoMemory>
+) -> Result<Lexeme, NoMemory>
     requires { 0 < length rest.now }
     ensures value { IfOk result (λ lexeme. lexeme ≡ atom_at rest.now) }
-    ensures positive { IfOk result (λ lexeme. 0 < lexeme.1) }
-    ensures fits { IfOk result (λ lexeme. lexeme.1 ≤ length rest.now) }
-    ensures not_end { IfOk result (λ lexeme. IsNotEnd lexeme.0) }
+    ensures positive { IfOk result (λ lexeme. 0 < lexeme.size) }
+    ensures fits { IfOk result (λ lexeme. lexeme.size ≤ length rest.now) }
+    ensures not_end { IfOk result (λ lexeme. IsNotEnd lexeme.kind) }
 {
     match quoted_in(unquoted, '\'', &rest[1..])? {
-        None => Ok((Some(TokenKind::Bad), 1)),
-        Some(size) => Ok((
-            Some(TokenKind::Atom(name_in(alloc, spelled, unquoted.as_slice())?)),
-            1 + size,
-        )),
+        None => Ok(bad()),
+        Some(size) => {
+            let name = name_in(alloc, spelled, unquoted.as_slice())?;
+            Ok(Lexeme {
+                kind: Some(TokenKind::Atom(name)),
+                size: 1 + size,
+            })
+        }
     }
 }
 
 #[tactic(auto, unfolding(crate::specs::Tokens::string_at))]
-pub fn string(
-    alloc: Global,
-    unquoted: &mut Vec<char>,
-    rest: &[char],
-) -> Result<(Option<TokenKind>, usize), NoMemory>
+pub fn string(alloc: Global, unquoted: &mut Vec<char>, rest: &[char]) -> Result<Lexeme, NoMemory>
     requires { 0 < length rest.now }
     ensures value { IfOk result (λ lexeme. lexeme ≡ string_at rest.now) }
-    ensures positive { IfOk result (λ lexeme. 0 < lexeme.1) }
-    ensures fits { IfOk result (λ lexeme. lexeme.1 ≤ length rest.now) }
-    ensures not_end { IfOk result (λ lexeme. IsNotEnd lexeme.0) }
+    ensures positive { IfOk result (λ lexeme. 0 < lexeme.size) }
+    ensures fits { IfOk result (λ lexeme. lexeme.size ≤ length rest.now) }
+    ensures not_end { IfOk result (λ lexeme. IsNotEnd lexeme.kind) }
 {
     match quoted_in(unquoted, '"', &rest[1..])? {
-        None => Ok((Some(TokenKind::Bad), 1)),
-        Some(size) => Ok((
-            Some(TokenKind::Letters(codes_of(alloc, unquoted.as_slice())?)),
-            1 + size,
-        )),
+        None => Ok(bad()),
+        Some(size) => {
+            let codes = codes_of(alloc, unquoted.as_slice())?;
+            Ok(Lexeme {
+                kind: Some(TokenKind::Letters(codes)),
+                size: 1 + size,
+            })
+        }
     }
 }
 
 #[tactic(auto, unfolding(crate::specs::Tokens::character_at))]
-pub fn character(rest: &[char]) -> (Option<TokenKind>, usize)
+pub fn character(rest: &[char]) -> Lexeme
     requires { 0 < length rest.now }
     ensures value { result ≡ character_at rest.now }
-    ensures positive { 0 < result.1 }
-    ensures fits { result.1 ≤ length rest.now }
-    ensures not_end { IsNotEnd result.0 }
+    ensures positive { 0 < result.size }
+    ensures fits { result.size ≤ length rest.now }
+    ensures not_end { IsNotEnd result.kind }
 {
     match quoted_char(&rest[1..]) {
-        None => (Some(TokenKind::Bad), 1),
-        Some((c, size)) => (Some(TokenKind::Character(c as u32)), 1 + size),
+        None => bad(),
+        Some((c, size)) => Lexeme {
+            kind: Some(TokenKind::Character(c as u32)),
+            size: 1 + size,
+        },
     }
 }

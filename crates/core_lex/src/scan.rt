@@ -7,35 +7,41 @@ ghost use Rattle.core_lex.specs.declared.token.Token.{Token};
 use crate::listed::{symbol, variable, word};
 use crate::number::{begins_number, number};
 use crate::quoted::{atom, character, string};
-use crate::token::{Token, TokenKind, Tokens};
+use crate::token::{Lexeme, Token, TokenKind, Tokens};
 use core_chars::{is_blank, is_capital, is_lower, line_len};
 use erl_base::{List, NoMemory, Place, behind};
 use std::alloc::Global;
 use utf8_text::{byte_len, place_after};
 
-// The kind of the token at the front, or `None` for a blank or a comment, and how many characters write it.
+// The lexeme at the front.
 #[tactic(auto, unfolding(crate::specs::Tokens::lexeme_at, crate::specs::Tokens::comment_at))]
 fn lexeme(
     alloc: Global,
     spelled: &mut String,
     unquoted: &mut Vec<char>,
     rest: &[char],
-) -> Result<(Option<TokenKind>, usize), NoMemory>
+) -> Result<Lexeme, NoMemory>
     requires { 0 < length rest.now }
     ensures value { IfOk result (λ lexeme. lexeme ≡ lexeme_at rest.now) }
-    ensures positive { IfOk result (λ lexeme. 0 < lexeme.1) }
-    ensures fits { IfOk result (λ lexeme. lexeme.1 ≤ length rest.now) }
-    ensures not_end { IfOk result (λ lexeme. IsNotEnd lexeme.0) }
+    ensures positive { IfOk result (λ lexeme. 0 < lexeme.size) }
+    ensures fits { IfOk result (λ lexeme. lexeme.size ≤ length rest.now) }
+    ensures not_end { IfOk result (λ lexeme. IsNotEnd lexeme.kind) }
 {
     let c = rest[0];
     if is_blank(c) {
-        return Ok((None, 1));
+        return Ok(Lexeme {
+            kind: None,
+            size: 1,
+        });
     }
     if c == '%' {
-        return Ok((None, 1 + line_len(&rest[1..])));
+        return Ok(Lexeme {
+            kind: None,
+            size: 1 + line_len(&rest[1..]),
+        });
     }
     if is_lower(c) {
-        return word(alloc, spelled, rest);
+        return Ok(word(rest));
     }
     if is_capital(c) {
         return variable(alloc, spelled, rest);
@@ -52,24 +58,24 @@ fn lexeme(
     if c == '$' {
         return Ok(character(rest));
     }
-    symbol(alloc, spelled, rest)
+    Ok(symbol(rest))
 }
 
 fn is_bad(kind: &TokenKind) -> bool
     ensures { result ≡ is_bad kind.now }
 {
     match kind {
-        TokenKind::Word(_) => false,
-        TokenKind::Symbol(_) => false,
-        TokenKind::Variable(_) => false,
-        TokenKind::Atom(_) => false,
-        TokenKind::Number(_, _) => false,
-        TokenKind::Wide(_) => false,
-        TokenKind::Float => false,
-        TokenKind::Character(_) => false,
-        TokenKind::Letters(_) => false,
+        TokenKind::Word(_)
+        | TokenKind::Symbol(_)
+        | TokenKind::Variable(_)
+        | TokenKind::Atom(_)
+        | TokenKind::Number(_, _)
+        | TokenKind::Wide(_)
+        | TokenKind::Float
+        | TokenKind::Character(_)
+        | TokenKind::Letters(_)
+        | TokenKind::End => false,
         TokenKind::Bad => true,
-        TokenKind::End => false,
     }
 }
 
@@ -117,13 +123,14 @@ pub fn scan(alloc: Global, text: &[char]) -> Result<Tokens, NoMemory>
     let mut byte = 0u64;
     while at < text.len() {
         let rest = behind(text, at);
-        let (kind, size) = lexeme(alloc, &mut spelled, &mut unquoted, rest)?;
-        let lexeme = &rest[..size];
-        let to = byte + byte_len(lexeme);
-        if keep(&mut found, kind, place, byte, to)? {
+        let next = lexeme(alloc, &mut spelled, &mut unquoted, rest)?;
+        let size = next.size;
+        let written = &rest[..size];
+        let to = byte + byte_len(written);
+        if keep(&mut found, next.kind, place, byte, to)? {
             return Ok(found);
         }
-        place = place_after(lexeme, place);
+        place = place_after(written, place);
         byte = to;
         at += size;
     }

@@ -1,5 +1,5 @@
 -- The reading of tokens, step by step.
-use Rattle.std.proofs.Common.{◌≡◌, ◌<◌, ◌≤◌, List, [], ◌∷◌, ◌++◌, Bool, true, false, ◌&&◌, not, length, Option, Some, None, refl, sym, ap, ap₂, get_or, option_map, map, ◌∙◌, if◌then◌else◌, codes, arith}
+use Rattle.std.proofs.Common.{◌≡◌, ◌<◌, ◌≤◌, List, [], ◌∷◌, ◌++◌, Bool, true, false, ◌&&◌, not, length, Option, Some, None, refl, sym, ap, ap₂, get_or, option_map, map, ◌∙◌, if◌then◌else◌, arith}
 use Rattle.erl_base.specs.Names.{Name}
 use Rattle.erl_base.specs.declared.ids.Place.{Place}
 use Rattle.core_lex.specs.declared.token.Token.{Token}
@@ -9,7 +9,7 @@ use Rattle.core_form.specs.Core.{Def}
 use Rattle.core_form.specs.View as View
 use Rattle.erl_term.specs.View.{attribute_view}
 use Rattle.erl_term.specs.declared.term.Attribute.{Attribute}
-use Rattle.pass_line.specs.PlainText.{is_symbol, is_variable, is_value, is_fun_name, fun_name, names_from, names, binder, opens_fun, ends, def_of, defs, params, params_after, params_more, body, opens_module, are_attributes, module_of, with_defs, tree, is_atom, name_of}
+use Rattle.pass_line.specs.PlainText.{is_close_paren, is_comma, is_arrow, is_close_bracket, is_variable, is_value, is_fun_name, fun_name, names_from, names, binder, opens_fun, ends, def_of, defs, params, params_after, params_more, body, opens_module, are_attributes, module_of, with_defs, tree, is_atom, name_of}
 
 pub if_true : {A : Type 0} (b : Bool) (x y : A) → b ≡ true → (if b then x else y) ≡ x
 if_true b x y e = ap (λ t. if t then x else y) e
@@ -39,33 +39,33 @@ module _ (found : List FunName) (ts : List Token) where
     unfolding names_from
     names_from-no_name h = ap (names_from found) e ∙ if_true (not (is_fun_name a s n)) _ _ (ap not h)
 
-    pub names_from-close : is_fun_name a s n ≡ true → is_symbol (codes "]") c ≡ true →
+    pub names_from-close : is_fun_name a s n ≡ true → is_close_bracket c.kind ≡ true →
         names_from found ts ≡ Some (found ++ fun_name a n ∷ [], later)
     unfolding names_from
-    names_from-close h k = ap (names_from found) e ∙ if_false (not (is_fun_name a s n)) _ _ (ap not h) ∙ if_true (is_symbol (codes "]") c) _ _ k
+    names_from-close h k = ap (names_from found) e ∙ if_false (not (is_fun_name a s n)) _ _ (ap not h) ∙ if_true (is_close_bracket c.kind) _ _ k
 
-    pub names_from-comma : is_fun_name a s n ≡ true → is_symbol (codes "]") c ≡ false → is_symbol (codes ",") c ≡ true →
+    pub names_from-comma : is_fun_name a s n ≡ true → is_close_bracket c.kind ≡ false → is_comma c.kind ≡ true →
         names_from found ts ≡ names_from (found ++ fun_name a n ∷ []) later
     unfolding names_from
     names_from-comma h k l =
-        ap (names_from found) e ∙ if_false (not (is_fun_name a s n)) _ _ (ap not h) ∙ if_false (is_symbol (codes "]") c) _ _ k
-        ∙ if_true (is_symbol (codes ",") c) _ _ l
+        ap (names_from found) e ∙ if_false (not (is_fun_name a s n)) _ _ (ap not h) ∙ if_false (is_close_bracket c.kind) _ _ k
+        ∙ if_true (is_comma c.kind) _ _ l
 
-    pub names_from-other : is_fun_name a s n ≡ true → is_symbol (codes "]") c ≡ false → is_symbol (codes ",") c ≡ false →
+    pub names_from-other : is_fun_name a s n ≡ true → is_close_bracket c.kind ≡ false → is_comma c.kind ≡ false →
         names_from found ts ≡ None
     unfolding names_from
     names_from-other h k l =
-        ap (names_from found) e ∙ if_false (not (is_fun_name a s n)) _ _ (ap not h) ∙ if_false (is_symbol (codes "]") c) _ _ k
-        ∙ if_false (is_symbol (codes ",") c) _ _ l
+        ap (names_from found) e ∙ if_false (not (is_fun_name a s n)) _ _ (ap not h) ∙ if_false (is_close_bracket c.kind) _ _ k
+        ∙ if_false (is_comma c.kind) _ _ l
 
 module _ (ts : List Token) (t : Token) (later : List Token) (e : ts ≡ t ∷ later) where
-  pub names-close : is_symbol (codes "]") t ≡ true → names ts ≡ Some ([], later)
+  pub names-close : is_close_bracket t.kind ≡ true → names ts ≡ Some ([], later)
   unfolding names
-  names-close h = ap names e ∙ if_true (is_symbol (codes "]") t) _ _ h
+  names-close h = ap names e ∙ if_true (is_close_bracket t.kind) _ _ h
 
-  pub names-some : is_symbol (codes "]") t ≡ false → names ts ≡ names_from [] ts
+  pub names-some : is_close_bracket t.kind ≡ false → names ts ≡ names_from [] ts
   unfolding names
-  names-some h = ap names e ∙ if_false (is_symbol (codes "]") t) _ _ h ∙ ap (names_from []) (sym e)
+  names-some h = ap names e ∙ if_false (is_close_bracket t.kind) _ _ h ∙ ap (names_from []) (sym e)
 
 pub names-short : (ts : List Token) → length ts < 1 → names ts ≡ None
 unfolding names
@@ -74,33 +74,33 @@ names-short (t ∷ ts) h = absurd (omega arith)
 
 module _ (ds : List Def) (f : FunName) (p : Place) where
   module _ (xs : List Binder) (ts : List Token) (t : Token) (later : List Token) (e : ts ≡ t ∷ later) where
-    pub params_after-close : is_symbol (codes ")") t ≡ true → params_after ds f p xs ts ≡ body ds f p xs later
+    pub params_after-close : is_close_paren t.kind ≡ true → params_after ds f p xs ts ≡ body ds f p xs later
     unfolding params_after
-    params_after-close h = ap (params_after ds f p xs) e ∙ if_true (is_symbol (codes ")") t) _ _ h
+    params_after-close h = ap (params_after ds f p xs) e ∙ if_true (is_close_paren t.kind) _ _ h
 
-    pub params_after-other : is_symbol (codes ")") t ≡ false → is_symbol (codes ",") t ≡ false → params_after ds f p xs ts ≡ None
+    pub params_after-other : is_close_paren t.kind ≡ false → is_comma t.kind ≡ false → params_after ds f p xs ts ≡ None
     unfolding params_after
-    params_after-other h k = ap (params_after ds f p xs) e ∙ if_false (is_symbol (codes ")") t) _ _ h ∙ if_false (is_symbol (codes ",") t) _ _ k
+    params_after-other h k = ap (params_after ds f p xs) e ∙ if_false (is_close_paren t.kind) _ _ h ∙ if_false (is_comma t.kind) _ _ k
 
-    params_after-comma : is_symbol (codes ")") t ≡ false → is_symbol (codes ",") t ≡ true → params_after ds f p xs ts ≡ params_more ds f p xs later
+    params_after-comma : is_close_paren t.kind ≡ false → is_comma t.kind ≡ true → params_after ds f p xs ts ≡ params_more ds f p xs later
     unfolding params_after
-    params_after-comma h k = ap (params_after ds f p xs) e ∙ if_false (is_symbol (codes ")") t) _ _ h ∙ if_true (is_symbol (codes ",") t) _ _ k
+    params_after-comma h k = ap (params_after ds f p xs) e ∙ if_false (is_close_paren t.kind) _ _ h ∙ if_true (is_comma t.kind) _ _ k
 
     more-none : (ts : List Token) → length ts < 1 → params_more ds f p xs ts ≡ None
     unfolding params_more
     more-none [] h = refl
     more-none (t ∷ ts) h = absurd (omega arith)
 
-    pub params_after-end : is_symbol (codes ")") t ≡ false → is_symbol (codes ",") t ≡ true → length later < 1 → params_after ds f p xs ts ≡ None
+    pub params_after-end : is_close_paren t.kind ≡ false → is_comma t.kind ≡ true → length later < 1 → params_after ds f p xs ts ≡ None
     params_after-end h k l = params_after-comma h k ∙ more-none later l
 
     module _ (v : Token) (more : List Token) (g : later ≡ v ∷ more) where
-      pub params_after-no_variable : is_symbol (codes ")") t ≡ false → is_symbol (codes ",") t ≡ true → is_variable v.kind ≡ false →
+      pub params_after-no_variable : is_close_paren t.kind ≡ false → is_comma t.kind ≡ true → is_variable v.kind ≡ false →
           params_after ds f p xs ts ≡ None
       unfolding params_more
       params_after-no_variable h k l = params_after-comma h k ∙ ap (params_more ds f p xs) g ∙ if_false (is_variable v.kind) _ _ l
 
-      pub params_after-variable : is_symbol (codes ")") t ≡ false → is_symbol (codes ",") t ≡ true → is_variable v.kind ≡ true →
+      pub params_after-variable : is_close_paren t.kind ≡ false → is_comma t.kind ≡ true → is_variable v.kind ≡ true →
           params_after ds f p xs ts ≡ params_after ds f p (xs ++ binder v ∷ []) more
       unfolding params_more
       params_after-variable h k l = params_after-comma h k ∙ ap (params_more ds f p xs) g ∙ if_true (is_variable v.kind) _ _ l
@@ -111,17 +111,17 @@ module _ (ds : List Def) (f : FunName) (p : Place) where
   params_after-short xs (t ∷ ts) h = absurd (omega arith)
 
   module _ (ts : List Token) (t : Token) (later : List Token) (e : ts ≡ t ∷ later) where
-    pub params-close : is_symbol (codes ")") t ≡ true → params ds f p ts ≡ body ds f p [] later
+    pub params-close : is_close_paren t.kind ≡ true → params ds f p ts ≡ body ds f p [] later
     unfolding params
-    params-close h = ap (params ds f p) e ∙ if_true (is_symbol (codes ")") t) _ _ h
+    params-close h = ap (params ds f p) e ∙ if_true (is_close_paren t.kind) _ _ h
 
-    pub params-variable : is_symbol (codes ")") t ≡ false → is_variable t.kind ≡ true → params ds f p ts ≡ params_after ds f p (binder t ∷ []) later
+    pub params-variable : is_close_paren t.kind ≡ false → is_variable t.kind ≡ true → params ds f p ts ≡ params_after ds f p (binder t ∷ []) later
     unfolding params
-    params-variable h k = ap (params ds f p) e ∙ if_false (is_symbol (codes ")") t) _ _ h ∙ if_true (is_variable t.kind) _ _ k
+    params-variable h k = ap (params ds f p) e ∙ if_false (is_close_paren t.kind) _ _ h ∙ if_true (is_variable t.kind) _ _ k
 
-    pub params-no_variable : is_symbol (codes ")") t ≡ false → is_variable t.kind ≡ false → params ds f p ts ≡ None
+    pub params-no_variable : is_close_paren t.kind ≡ false → is_variable t.kind ≡ false → params ds f p ts ≡ None
     unfolding params
-    params-no_variable h k = ap (params ds f p) e ∙ if_false (is_symbol (codes ")") t) _ _ h ∙ if_false (is_variable t.kind) _ _ k
+    params-no_variable h k = ap (params ds f p) e ∙ if_false (is_close_paren t.kind) _ _ h ∙ if_false (is_variable t.kind) _ _ k
 
   pub params-short : (ts : List Token) → length ts < 1 → params ds f p ts ≡ None
   unfolding params
@@ -136,17 +136,17 @@ module _ (ds : List Def) (f : FunName) (p : Place) where
     body-short (w ∷ e ∷ ts) h = absurd (omega arith)
 
     module _ (ts : List Token) (w v : Token) (later : List Token) (e : ts ≡ w ∷ v ∷ later) where
-      pub body-value : is_symbol (codes "->") w ≡ true → is_value v.kind ≡ true → body ds f p xs ts ≡ defs (ds ++ def_of f p xs v ∷ []) later
+      pub body-value : is_arrow w.kind ≡ true → is_value v.kind ≡ true → body ds f p xs ts ≡ defs (ds ++ def_of f p xs v ∷ []) later
       unfolding body
-      body-value h k = ap (body ds f p xs) e ∙ if_true (is_symbol (codes "->") w && is_value v.kind) _ _ (ap (λ b. b && is_value v.kind) h ∙ k)
+      body-value h k = ap (body ds f p xs) e ∙ if_true (is_arrow w.kind && is_value v.kind) _ _ (ap (λ b. b && is_value v.kind) h ∙ k)
 
-      pub body-no_arrow : is_symbol (codes "->") w ≡ false → body ds f p xs ts ≡ None
+      pub body-no_arrow : is_arrow w.kind ≡ false → body ds f p xs ts ≡ None
       unfolding body
-      body-no_arrow h = ap (body ds f p xs) e ∙ if_false (is_symbol (codes "->") w && is_value v.kind) _ _ (ap (λ b. b && is_value v.kind) h)
+      body-no_arrow h = ap (body ds f p xs) e ∙ if_false (is_arrow w.kind && is_value v.kind) _ _ (ap (λ b. b && is_value v.kind) h)
 
-      pub body-no_value : is_symbol (codes "->") w ≡ true → is_value v.kind ≡ false → body ds f p xs ts ≡ None
+      pub body-no_value : is_arrow w.kind ≡ true → is_value v.kind ≡ false → body ds f p xs ts ≡ None
       unfolding body
-      body-no_value h k = ap (body ds f p xs) e ∙ if_false (is_symbol (codes "->") w && is_value v.kind) _ _ (ap (λ b. b && is_value v.kind) h ∙ k)
+      body-no_value h k = ap (body ds f p xs) e ∙ if_false (is_arrow w.kind && is_value v.kind) _ _ (ap (λ b. b && is_value v.kind) h ∙ k)
 
 module _ (ds : List Def) (ts : List Token) (a s n q f o : Token) (later : List Token) (e : ts ≡ a ∷ s ∷ n ∷ q ∷ f ∷ o ∷ later) where
   pub defs-open : is_fun_name a s n ≡ true → opens_fun q f o ≡ true → defs ds ts ≡ params ds (fun_name a n) f.place later

@@ -1,55 +1,94 @@
 // What the tokens of a plain module form.
 ghost use Rattle.std.specs.Prelude.{◌≡◌, ◌-◌, ◌<◌, [], ◌∷◌, ◌++◌, List, Some, None, IfOk, MatchOption, IsTrue, true, false, if◌then◌else◌, length, map};
-ghost use Rattle.std.specs.Char.{is_ascii};
-ghost use Rattle.std.specs.List.{list_all};
-ghost use Rattle.erl_base.specs.Names.{same_name};
 ghost use Rattle.erl_base.specs.declared.ids.Place.{Place};
 ghost use Rattle.core_form.specs.declared.module.FunName.{FunName};
 ghost use Rattle.core_form.specs.Core as Plain;
 ghost use Rattle.core_form.specs.View.{view, def_view, module_view};
-ghost use Rattle.pass_line.specs.PlainText.{is_word, is_symbol, is_variable, is_value, value_of, is_arity_in, arity_in, is_fun_name, fun_name, names_from, names, binder, opens_fun, ends, defs, params, params_after, body, opens_module, are_attributes, tree};
+ghost use Rattle.pass_line.specs.PlainText.{is_open_paren, is_close_paren, is_comma, is_arrow, is_slash, is_equals, is_open_bracket, is_close_bracket, is_attributes_word, is_end_word, is_fun_word, is_module_word, is_variable, is_value, value_of, is_arity_in, arity_in, is_fun_name, fun_name, names_from, names, binder, opens_fun, ends, defs, params, params_after, body, opens_module, are_attributes, tree};
 
 use core_form::{Binder, Binders, Def, Defs, Expr, ExprForm, FunName, FunNames, Module};
-use core_lex::{Token, TokenKind};
+use core_lex::{Symbol, Token, TokenKind, Word};
 use erl_base::{Boxed, FunKey, List, Name, NoMemory, Place};
 use erl_term::Term;
 use std::alloc::Global;
 
-/// Whether the name has the characters of the text.
-pub fn is_spelled(name: &Name, text: &str) -> bool
-    requires { IsTrue (list_all is_ascii text.now) }
-    ensures { result ≡ same_name name.now text.now }
+fn is_open_paren(kind: &TokenKind) -> bool
+    ensures { result ≡ is_open_paren kind.now }
 {
-    name.as_str() == text
+    matches!(kind, TokenKind::Symbol(Symbol::OpenParen))
 }
 
-fn is_symbol(token: &Token, text: &str) -> bool
-    requires { IsTrue (list_all is_ascii text.now) }
-    ensures { result ≡ is_symbol text.now token.now }
+fn is_close_paren(kind: &TokenKind) -> bool
+    ensures { result ≡ is_close_paren kind.now }
 {
-    if let TokenKind::Symbol(name) = &token.kind {
-        is_spelled(name, text)
-    } else {
-        false
-    }
+    matches!(kind, TokenKind::Symbol(Symbol::CloseParen))
 }
 
-fn is_word(token: &Token, text: &str) -> bool
-    requires { IsTrue (list_all is_ascii text.now) }
-    ensures { result ≡ is_word text.now token.now }
+fn is_comma(kind: &TokenKind) -> bool
+    ensures { result ≡ is_comma kind.now }
 {
-    if let TokenKind::Word(name) = &token.kind {
-        is_spelled(name, text)
-    } else {
-        false
-    }
+    matches!(kind, TokenKind::Symbol(Symbol::Comma))
+}
+
+fn is_arrow(kind: &TokenKind) -> bool
+    ensures { result ≡ is_arrow kind.now }
+{
+    matches!(kind, TokenKind::Symbol(Symbol::Arrow))
+}
+
+fn is_slash(kind: &TokenKind) -> bool
+    ensures { result ≡ is_slash kind.now }
+{
+    matches!(kind, TokenKind::Symbol(Symbol::Slash))
+}
+
+fn is_equals(kind: &TokenKind) -> bool
+    ensures { result ≡ is_equals kind.now }
+{
+    matches!(kind, TokenKind::Symbol(Symbol::Equals))
+}
+
+fn is_open_bracket(kind: &TokenKind) -> bool
+    ensures { result ≡ is_open_bracket kind.now }
+{
+    matches!(kind, TokenKind::Symbol(Symbol::OpenBracket))
+}
+
+fn is_close_bracket(kind: &TokenKind) -> bool
+    ensures { result ≡ is_close_bracket kind.now }
+{
+    matches!(kind, TokenKind::Symbol(Symbol::CloseBracket))
+}
+
+fn is_attributes_word(kind: &TokenKind) -> bool
+    ensures { result ≡ is_attributes_word kind.now }
+{
+    matches!(kind, TokenKind::Word(Word::Attributes))
+}
+
+fn is_end_word(kind: &TokenKind) -> bool
+    ensures { result ≡ is_end_word kind.now }
+{
+    matches!(kind, TokenKind::Word(Word::End))
+}
+
+fn is_fun_word(kind: &TokenKind) -> bool
+    ensures { result ≡ is_fun_word kind.now }
+{
+    matches!(kind, TokenKind::Word(Word::Fun))
+}
+
+fn is_module_word(kind: &TokenKind) -> bool
+    ensures { result ≡ is_module_word kind.now }
+{
+    matches!(kind, TokenKind::Word(Word::Module))
 }
 
 fn arity(token: &Token) -> Option<u32>
     ensures { MatchOption result (is_arity_in token.now.kind (token.now.to - token.now.from) ≡ false)
         (λ n. (is_arity_in token.now.kind (token.now.to - token.now.from) ≡ true) × (n ≡ arity_in token.now.kind)) }
 {
-    let TokenKind::Number(number, signed) = &token.kind else {
+    let TokenKind::Number(signed, number) = &token.kind else {
         return None;
     };
     if *signed || token.to.saturating_sub(token.from) > 9 {
@@ -73,7 +112,7 @@ fn fun_name(
     let TokenKind::Atom(text) = &name.kind else {
         return Ok(None);
     };
-    if !is_symbol(slash, "/") {
+    if !is_slash(&slash.kind) {
         return Ok(None);
     }
     let Some(arity) = arity(number) else {
@@ -103,10 +142,10 @@ fn names_from<'a>(
             return Ok(None);
         };
         found.push(named)?;
-        if is_symbol(separator, "]") {
+        if is_close_bracket(&separator.kind) {
             return Ok(Some((found, later)));
         }
-        if !is_symbol(separator, ",") {
+        if !is_comma(&separator.kind) {
             return Ok(None);
         }
         rest = later;
@@ -124,7 +163,7 @@ fn names<'a>(
     let [first, later @ ..] = tokens else {
         return Ok(None);
     };
-    if is_symbol(first, "]") {
+    if is_close_bracket(&first.kind) {
         return Ok(Some((List::new(alloc), later)));
     }
     names_from(alloc, tokens)
@@ -156,10 +195,10 @@ fn params_after<'a>(
 {
     let mut rest = tokens;
     while let [separator, later @ ..] = rest {
-        if is_symbol(separator, ")") {
+        if is_close_paren(&separator.kind) {
             return Ok(Some((xs, later)));
         }
-        if !is_symbol(separator, ",") {
+        if !is_comma(&separator.kind) {
             return Ok(None);
         }
         let [variable, more @ ..] = later else {
@@ -188,7 +227,7 @@ fn params<'a>(
         return Ok(None);
     };
     let mut xs = List::new(alloc);
-    if is_symbol(first, ")") {
+    if is_close_paren(&first.kind) {
         return Ok(Some((xs, later)));
     }
     let Some(x) = binder(alloc, first)? else {
@@ -203,17 +242,17 @@ fn value(alloc: Global, token: &Token) -> Result<Option<Expr>, NoMemory>
         (λ e. (is_value token.now.kind ≡ true) × (view e ≡ value_of token.now.kind token.now.place))) }
 {
     let form = match &token.kind {
-        TokenKind::Word(_) => return Ok(None),
-        TokenKind::Symbol(_) => return Ok(None),
         TokenKind::Variable(name) => ExprForm::Var(name.copy(alloc)?),
         TokenKind::Atom(name) => ExprForm::Literal(Term::Atom(name.copy(alloc)?)),
-        TokenKind::Number(number, _) => ExprForm::Literal(Term::Int(*number)),
-        TokenKind::Wide(_) => return Ok(None),
-        TokenKind::Float => return Ok(None),
-        TokenKind::Character(_) => return Ok(None),
-        TokenKind::Letters(_) => return Ok(None),
-        TokenKind::Bad => return Ok(None),
-        TokenKind::End => return Ok(None),
+        TokenKind::Number(_, number) => ExprForm::Literal(Term::Int(*number)),
+        TokenKind::Word(_)
+        | TokenKind::Symbol(_)
+        | TokenKind::Wide(_)
+        | TokenKind::Float
+        | TokenKind::Character(_)
+        | TokenKind::Letters(_)
+        | TokenKind::Bad
+        | TokenKind::End => return Ok(None),
     };
     Ok(Some(Expr {
         place: token.place,
@@ -259,7 +298,7 @@ fn def<'a>(
     let [arrow, first, later @ ..] = rest else {
         return Ok(None);
     };
-    if !is_symbol(arrow, "->") {
+    if !is_arrow(&arrow.kind) {
         return Ok(None);
     }
     let Some(value) = value(alloc, first)? else {
@@ -272,14 +311,14 @@ fn def<'a>(
 fn opens_fun(equals: &Token, word: &Token, paren: &Token) -> bool
     ensures { result ≡ opens_fun equals.now word.now paren.now }
 {
-    is_symbol(equals, "=") && is_word(word, "fun") && is_symbol(paren, "(")
+    is_equals(&equals.kind) && is_fun_word(&word.kind) && is_open_paren(&paren.kind)
 }
 
 fn ends(word: &Token, last: &Token) -> bool
     ensures { result ≡ ends word.now last.now }
 {
     if let TokenKind::End = &last.kind {
-        is_word(word, "end")
+        is_end_word(&word.kind)
     } else {
         false
     }
@@ -325,13 +364,13 @@ fn defs(alloc: Global, tokens: &[Token]) -> Result<Option<Defs>, NoMemory>
 fn opens_module(word: &Token, bracket: &Token) -> bool
     ensures { result ≡ opens_module word.now bracket.now }
 {
-    is_word(word, "module") && is_symbol(bracket, "[")
+    is_module_word(&word.kind) && is_open_bracket(&bracket.kind)
 }
 
 fn are_attributes(word: &Token, left: &Token, right: &Token) -> bool
     ensures { result ≡ are_attributes word.now left.now right.now }
 {
-    is_word(word, "attributes") && is_symbol(left, "[") && is_symbol(right, "]")
+    is_attributes_word(&word.kind) && is_open_bracket(&left.kind) && is_close_bracket(&right.kind)
 }
 
 /// The module that the tokens of a text form, if they form a plain one.

@@ -1,6 +1,7 @@
 // The plain module of a text.
 ghost use Rattle.std.specs.Prelude.{◌≡◌, ◌==◌, IfOk, MatchOption, IsUtf8, false, chars};
 ghost use Rattle.std.specs.List.{list_any};
+ghost use Rattle.erl_base.specs.Ascii.{percent};
 ghost use Rattle.core_lex.specs.Tokens.{tokens};
 ghost use Rattle.core_form.specs.View.{module_view};
 ghost use Rattle.pass_line.specs.PlainText.{PlainText};
@@ -14,7 +15,7 @@ use erl_base::{Fault, NoMemory};
 use std::alloc::Global;
 
 fn has_percent(bytes: &[u8]) -> bool
-    ensures { result ≡ list_any (λ b. b == 37) bytes.now }
+    ensures { result ≡ list_any (λ b. b == percent) bytes.now }
 {
     for b in bytes {
         if *b == b'%' {

@@ -5,9 +5,9 @@ use Rattle.erl_term.specs.Term.{Term}
 use Rattle.erl_term.specs.Terms.{list_of}
 use Rattle.term_read.specs.Lexemes.{◌>>=◌, behind_mark, mark_at}
 use Rattle.term_read.specs.TermGrammar.{Items, one_item, more_items, Row, no_item, some_items, ListEnd, no_tail, tail, PairOf, key_and_value}
-use Rattle.term_read.specs.Reading.{choice, and_items, items_within, items_of, row_of, list_end, pair_by}
+use Rattle.term_read.specs.Reading.{before, choice, and_items, items_within, items_of, row_of, list_end, pair_by}
 use Rattle.term_read.proofs.Shorter.{bound, some_same, mark_taken}
-use Rattle.term_read.proofs.ItemRows.{Consumes, before, no_items, last_of_items, more_of_items}
+use Rattle.term_read.proofs.ItemRows.{Consumes, no_items, last_of_items, more_of_items}
 
 pub record Sound {A : Type 0} (p : List ℕ → Option (A × List ℕ)) (P : List ℕ → A → List ℕ → Type 0) : Type 0 where
   pub reads : (cs ds : List ℕ) (x : A) → p cs ≡ Some (x, ds) → P cs x ds

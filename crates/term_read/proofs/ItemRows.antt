@@ -1,17 +1,12 @@
 -- Rows of items read one after another.
 use Rattle.std.proofs.Common.{◌≡◌, ℕ, zero, suc, ◌<◌, ◌≤◌, refl, sym, ap, ◌∙◌, List, [], ◌∷◌, ◌++◌, length, codes, Option, Some, None, arith, append_assoc}
 use Rattle.term_read.specs.Lexemes.{◌>>=◌, mark_at}
-use Rattle.term_read.specs.Reading.{and_items, items_within, items_of}
+use Rattle.term_read.specs.Reading.{before, and_items, items_within, items_of}
 use Rattle.term_read.proofs.Shorter.{mark_shorter}
 
 -- what is read takes something of the characters
 pub record Consumes {A : Type 0} (p : List ℕ → Option (A × List ℕ)) : Type 0 where
   pub shorter : (cs ds : List ℕ) (x : A) → p cs ≡ Some (x, ds) → length ds < length cs
-
--- items that were read, before what is read on
-abbrev pub before : {A : Type 0} → List A → Option (List A × List ℕ) → Option (List A × List ℕ)
-before xs None = None
-before xs (Some found) = Some (xs ++ found.0, found.1)
 
 -- what is read behind an item
 abbrev pub onward : {A : Type 0} → (List ℕ → Option (List A × List ℕ)) → A × List ℕ → Option (List A × List ℕ)

@@ -5,6 +5,7 @@ mod PartBits
 pub mod Deciding
 mod PartRows
 mod WellRows
+mod Tails
 pub mod Consuming
 pub mod FunForm
 pub mod FormSound

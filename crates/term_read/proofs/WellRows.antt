@@ -108,7 +108,7 @@ list_value xs u t e = list_seen xs t ∙ ap (λ v. list_of (map view xs) (view v
 
 -- one list behind items
 
-list_of-append : (ts us : List Plain.Term) (u : Plain.Term) → list_of (ts ++ us) u ≡ list_of ts (list_of us u)
+pub list_of-append : (ts us : List Plain.Term) (u : Plain.Term) → list_of (ts ++ us) u ≡ list_of ts (list_of us u)
 list_of-append [] us u = refl
 list_of-append (t ∷ ts) us u = ap (Plain.cons t) (list_of-append ts us u)
 

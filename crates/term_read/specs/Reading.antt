@@ -1,6 +1,6 @@
 -- How the text of a term is read: functions on characters that the reader's calls equal. That they read the texts of
 -- terms and nothing else is proved of them.
-use Rattle.std.specs.Prelude.{◌≡◌, ℕ, zero, suc, ◌^◌, List, [], ◌∷◌, map, ◌==◌, length, Option, Some, None, Result, Ok, Err, if◌then◌else◌, codes}
+use Rattle.std.specs.Prelude.{◌≡◌, ℕ, zero, suc, ◌^◌, List, [], ◌∷◌, ◌++◌, map, ◌==◌, length, Option, Some, None, Result, Ok, Err, if◌then◌else◌, codes}
 use Rattle.std.specs.List.{list_all}
 use Rattle.erl_base.specs.Names.{Name, same_name}
 use Rattle.erl_term.specs.Term as T
@@ -36,6 +36,17 @@ items_within p (suc n) cs = p cs >>= λ x. and_items x (mark_at (codes ",") x.1)
 unfoldable pub items_of : {A : Type 0} → (List ℕ → Option (A × List ℕ)) → List ℕ → Option (List A × List ℕ)
 items_of p cs = items_within p (length cs) cs
 
+-- items that were read, before those that are read on
+abbrev pub before : {A : Type 0} → List A → Option (List A × List ℕ) → Option (List A × List ℕ)
+before xs None = None
+before xs (Some found) = Some (xs ++ found.0, found.1)
+
+-- items that were read, before the tail that is read on
+abbrev pub before_tail : List Term → Option (Term × List ℕ) → Option (Term × List ℕ)
+before_tail ts None = None
+before_tail ts (Some tail) = Some (list_of ts tail.0, tail.1)
+
+-- items with commas between or none, up to a closing mark
 unfoldable pub row_of : {A : Type 0} → (List ℕ → Option (A × List ℕ)) → (close : List ℕ) → List ℕ → Option (List A × List ℕ)
 row_of p close cs =
     choice (mark_at close cs) (λ ds. Some ([], ds)) (items_of p cs >>= λ xs. mark_at close xs.1 >>= λ ds. Some (xs.0, ds))
@@ -45,9 +56,13 @@ list_end p cs =
     choice (mark_at (codes "|") cs) (λ ds. p ds >>= λ t. mark_at (codes "]") t.1 >>= λ es. Some (t.0, es))
     (mark_at (codes "]") cs >>= λ ds. Some (T.nil, ds))
 
+-- items, and what ends the list
+abbrev pub items_and_end : (List ℕ → Option (Term × List ℕ)) → List ℕ → Option (Term × List ℕ)
+items_and_end p cs = items_of p cs >>= λ ts. list_end p ts.1 >>= λ u. Some (list_of ts.0 u.0, u.1)
+
+-- behind `[`
 unfoldable pub list_by : (List ℕ → Option (Term × List ℕ)) → List ℕ → Option (Term × List ℕ)
-list_by p cs =
-    choice (mark_at (codes "]") cs) (λ ds. Some (T.nil, ds)) (items_of p cs >>= λ ts. list_end p ts.1 >>= λ u. Some (list_of ts.0 u.0, u.1))
+list_by p cs = choice (mark_at (codes "]") cs) (λ ds. Some (T.nil, ds)) (items_and_end p cs)
 
 unfoldable pub tuple_by : (List ℕ → Option (Term × List ℕ)) → List ℕ → Option (Term × List ℕ)
 tuple_by p cs = row_of p (codes "}") cs >>= λ ts. Some (T.tuple (terms ts.0), ts.1)

@@ -4,12 +4,8 @@
 //!
 //! The characters are gone through once. Each call is given those that are left, and gives a term and those behind it; each
 //! equals one function of `specs/Reading.antt`, and these functions decide the relations of `specs/TermGrammar.antt`. The catch:
-//! the tail of a list is read one level deeper, and its items then join the list.
-//!
-//! The pairs of a map are put in order by merging runs. A list in a tail is moved once for each bar before it.
-//!
-//! Memory may be refused at any time: bodies that always answer `NoMemory` meet the contracts, and the tests run each call with
-//! ample memory.
+//! the tail of a list is read one level deeper, and its items are added to those before the bar. No item is moved, but for those
+//! of a string in a tail, once: the time is linear, but for the pairs of a map, which are put in order by merging runs.
 #![tactic(auto)]
 
 mod bitstrings;

@@ -12,7 +12,7 @@ use erl_term::{Term, Terms};
 use std::alloc::Global;
 use std::collections::VecDeque;
 
-/// The list with these items and this tail. A tail that is a list gives its items.
+/// The list with these items and this tail. A tail that is a list, as a string is, gives its items.
 pub(crate) fn joined(alloc: Global, items: Terms, tail: Term) -> Result<Term, NoMemory>
     requires some { 0 < length items }
     requires items { AreWellFormed items }
@@ -37,6 +37,18 @@ fn longer(items: Terms, more: Terms, last: Boxed<Term>) -> Result<Term, NoMemory
     Ok(Term::List(appended(items, more)?, last))
 }
 
+/// The list of these items and no others.
+#[tactic(auto, unfolding(erl_term::specs::WellFormed::maps_rise))]
+pub(crate) fn proper(alloc: Global, items: Terms) -> Result<Term, NoMemory>
+    requires some { 0 < length items }
+    requires items { AreWellFormed items }
+    ensures value { IfOk result (λ term. view term ≡ list_of (map view items) Plain.nil) }
+    ensures well_formed { IfOk result (λ term. IsWellFormed term) }
+{
+    closed(alloc, items, Term::Nil)
+}
+
+/// The list with a tail that is none.
 fn closed(alloc: Global, items: Terms, tail: Term) -> Result<Term, NoMemory>
     requires some { 0 < length items }
     requires items { AreWellFormed items }
@@ -70,7 +82,7 @@ pub(crate) fn code_points(alloc: Global, text: &[char]) -> Result<Term, NoMemory
         return Ok(Term::Nil);
     }
     let items = code_point_items(alloc, text)?;
-    closed(alloc, items, Term::Nil)
+    proper(alloc, items)
 }
 
 fn code_point_items(alloc: Global, text: &[char]) -> Result<Terms, NoMemory>

@@ -2,13 +2,13 @@
 ghost use Rattle.std.specs.Prelude.{◌≡◌, ◌<◌, ◌≤◌, map, length, IfOk, codes};
 ghost use Rattle.erl_term.specs.View.{view, pair_view};
 ghost use Rattle.erl_term.specs.WellFormed.{IsWellFormed};
-ghost use Rattle.term_read.specs.Reading.{Gives, read_by, form_by, list_by, list_end, tuple_by, map_by, fun_by, hash_by, pair_by, items_of, row_of};
+ghost use Rattle.term_read.specs.Reading.{Gives, read_by, form_by, before, before_tail, items_and_end, list_by, list_end, tuple_by, map_by, fun_by, hash_by, pair_by, items_of, row_of};
 ghost use Rattle.erl_term.specs.WellRows.{AreWellFormed, PairsWellFormed, IsPairWellFormed};
 
 use crate::flat::fun_head;
 use crate::leaves::{fun_of, identifier, leaf};
 use crate::lexemes::{behind_blanks, behind_mark, expect, mark_at};
-use crate::lists::joined;
+use crate::lists::{joined, proper};
 use crate::unread::Unread;
 use erl_base::List;
 use erl_term::{Pair, Pairs, Term, Terms, map_of};
@@ -61,38 +61,100 @@ fn list_form(cs: &[char], alloc: Global, depth: u32) -> Result<(Term, &[char]), 
     if let Some(rest) = mark_at(cs, b"]") {
         return Ok((Term::Nil, rest));
     }
-    let (terms, rest) = items(cs, alloc, depth)?;
-    let (tail, rest) = list_end(rest, alloc, depth)?;
-    Ok((joined(alloc, terms, tail)?, rest))
+    list_from(cs, alloc, depth, List::new(alloc))
+}
+
+/// The rest of a list behind the items that were read: more items, at least one, and what ends it. The items of a list in its
+/// tail are added to the same list, and so on, so that no item is moved.
+#[cycle(read)]
+fn list_from(
+    cs: &[char],
+    alloc: Global,
+    depth: u32,
+    found: Terms,
+) -> Result<(Term, &[char]), Unread>
+    requires { AreWellFormed found }
+    ensures value { Gives (λ found. (view found.0, found.1.now)) result
+        (before_tail (map view found) (items_and_end (read_by depth) cs.now)) }
+    ensures well_formed { IfOk result (λ found. IsWellFormed found.0) }
+    ensures fits { IfOk result (λ found. length found.1.now < length cs.now) }
+{
+    let (terms, rest) = items(cs, alloc, depth, found)?;
+    list_end(rest, alloc, depth, terms)
 }
 
 /// What ends a list, behind its items.
 #[cycle(read)]
-#[tactic(auto, unfolding(crate::specs::Reading::list_end, erl_term::specs::WellFormed::maps_rise))]
-fn list_end(cs: &[char], alloc: Global, depth: u32) -> Result<(Term, &[char]), Unread>
-    ensures value { Gives (λ found. (view found.0, found.1.now)) result (list_end (read_by depth) cs.now) }
+#[tactic(auto, using(crate::proofs::Tails::list_unread))]
+fn list_end(cs: &[char], alloc: Global, depth: u32, found: Terms) -> Result<(Term, &[char]), Unread>
+    requires some { 0 < length found }
+    requires items { AreWellFormed found }
+    ensures value { Gives (λ found. (view found.0, found.1.now)) result (before_tail (map view found) (list_end (read_by depth) cs.now)) }
     ensures well_formed { IfOk result (λ found. IsWellFormed found.0) }
     ensures fits { IfOk result (λ found. length found.1.now < length cs.now) }
 {
     let Some(rest) = mark_at(cs, b"|") else {
         let rest = expect(cs, b"]")?;
-        return Ok((Term::Nil, rest));
+        return Ok((proper(alloc, found)?, rest));
     };
-    let (tail, rest) = read_at(rest, alloc, depth)?;
+    let (term, rest) = tail_at(rest, alloc, depth, found)?;
     let rest = expect(rest, b"]")?;
-    Ok((tail, rest))
+    Ok((term, rest))
 }
 
-/// Terms with commas between, at least one.
+/// A tail behind blanks, which nests at most `depth` deep.
+#[cycle(read)]
+fn tail_at(cs: &[char], alloc: Global, depth: u32, found: Terms) -> Result<(Term, &[char]), Unread>
+    requires some { 0 < length found }
+    requires items { AreWellFormed found }
+    ensures value { Gives (λ found. (view found.0, found.1.now)) result (before_tail (map view found) (read_by depth cs.now)) }
+    ensures well_formed { IfOk result (λ found. IsWellFormed found.0) }
+    ensures fits { IfOk result (λ found. length found.1.now < length cs.now) }
+{
+    if depth == 0 {
+        return Err(Unread::Syntax);
+    }
+    tail_form(behind_blanks(cs), alloc, depth - 1, found)
+}
+
+/// A tail that begins at once; its parts nest at most `depth` deep.
+#[cycle(read)]
+fn tail_form(
+    cs: &[char],
+    alloc: Global,
+    depth: u32,
+    found: Terms,
+) -> Result<(Term, &[char]), Unread>
+    requires some { 0 < length found }
+    requires items { AreWellFormed found }
+    ensures value { Gives (λ found. (view found.0, found.1.now)) result (before_tail (map view found) (form_by depth (read_by depth) cs.now)) }
+    ensures well_formed { IfOk result (λ found. IsWellFormed found.0) }
+    ensures fits { IfOk result (λ found. length found.1.now < length cs.now) }
+{
+    let [first, later @ ..] = cs else {
+        return Err(Unread::Syntax);
+    };
+    if *first != '[' {
+        let (tail, rest) = form(cs, alloc, depth)?;
+        return Ok((joined(alloc, found, tail)?, rest));
+    }
+    if let Some(rest) = mark_at(later, b"]") {
+        return Ok((proper(alloc, found)?, rest));
+    }
+    list_from(later, alloc, depth, found)
+}
+
+/// Terms with commas between, at least one, behind those that were read.
 #[cycle(read)]
 #[tactic(auto, using(crate::proofs::ItemRows::loop_refused), unfolding(erl_term::specs::WellFormed::maps_rise))]
-fn items(cs: &[char], alloc: Global, depth: u32) -> Result<(Terms, &[char]), Unread>
-    ensures value { Gives (λ found. (map view found.0, found.1.now)) result (items_of (read_by depth) cs.now) }
+fn items(cs: &[char], alloc: Global, depth: u32, found: Terms) -> Result<(Terms, &[char]), Unread>
+    requires { AreWellFormed found }
+    ensures value { Gives (λ found. (map view found.0, found.1.now)) result (before (map view found) (items_of (read_by depth) cs.now)) }
     ensures well_formed { IfOk result (λ found. AreWellFormed found.0) }
     ensures some { IfOk result (λ found. 0 < length found.0) }
     ensures fits { IfOk result (λ found. length found.1.now < length cs.now) }
 {
-    let mut terms = List::new(alloc);
+    let mut terms = found;
     let mut rest = cs;
     loop {
         let (term, later) = read_at(rest, alloc, depth)?;
@@ -120,7 +182,7 @@ fn row<'a>(
     if let Some(rest) = mark_at(cs, close) {
         return Ok((List::new(alloc), rest));
     }
-    let (terms, rest) = items(cs, alloc, depth)?;
+    let (terms, rest) = items(cs, alloc, depth, List::new(alloc))?;
     let rest = expect(rest, close)?;
     Ok((terms, rest))
 }

@@ -1,14 +1,38 @@
 use super::*;
-use crate::token::TokenKind;
+use crate::listed::{LONG_SYMBOLS, SHORT_SYMBOLS, WORDS};
+use crate::token::{Symbol, TokenKind, Word};
 use erl_base::{Kind, NoMemory, Place, Refusal};
+
+fn word_spelled(word: Word) -> &'static str {
+    for (spelling, listed) in WORDS {
+        if listed == word {
+            return spelling;
+        }
+    }
+    ""
+}
+
+fn symbol_spelled(symbol: Symbol) -> &'static str {
+    for (spelling, listed) in LONG_SYMBOLS {
+        if listed == symbol {
+            return spelling;
+        }
+    }
+    for (spelling, listed) in SHORT_SYMBOLS {
+        if listed == symbol {
+            return spelling;
+        }
+    }
+    ""
+}
 
 fn told(alloc: Global, kind: &TokenKind) -> Result<String, NoMemory> {
     Ok(match kind {
-        TokenKind::Word(name) => format!(in alloc; "word {}", name.as_str())?,
-        TokenKind::Symbol(name) => format!(in alloc; "sym {}", name.as_str())?,
+        TokenKind::Word(word) => format!(in alloc; "word {}", word_spelled(*word))?,
+        TokenKind::Symbol(symbol) => format!(in alloc; "sym {}", symbol_spelled(*symbol))?,
         TokenKind::Variable(name) => format!(in alloc; "var {}", name.as_str())?,
         TokenKind::Atom(name) => format!(in alloc; "atom {}", name.as_str())?,
-        TokenKind::Number(n, signed) => format!(in alloc; "num {n} {signed}")?,
+        TokenKind::Number(signed, n) => format!(in alloc; "num {n} {signed}")?,
         TokenKind::Wide(digits) => format!(in alloc; "wide {digits}")?,
         TokenKind::Float => format!(in alloc; "float")?,
         TokenKind::Character(c) => format!(in alloc; "char {c}")?,

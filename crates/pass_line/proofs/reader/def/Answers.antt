@@ -13,8 +13,8 @@ returns-in_default-rest-clause-value c =
     let h : (ds : List Plain.Def) (f : FunName) (p : Place) → params ds f p c.args.tokens.now ≡ body ds f p c.in-Some.xs c.in-Some.rest.now = λ ds f p. search rules in
     λ ds. h ds c.args.name c.args.place ∙ body-short ds _ _ _ _ c.in_default-rest.len_below
 
-pub returns-then-not-is_symbol-clause-value : goal.returns-then-not-is_symbol-clause-value
-returns-then-not-is_symbol-clause-value c =
+pub returns-then-not-is_arrow-clause-value : goal.returns-then-not-is_arrow-clause-value
+returns-then-not-is_arrow-clause-value c =
     let h : (ds : List Plain.Def) (f : FunName) (p : Place) → params ds f p c.args.tokens.now ≡ body ds f p c.in-Some.xs c.in-Some.rest.now = λ ds f p. search rules in
     λ ds. h ds c.args.name c.args.place
     ∙ body-no_arrow ds _ _ _ _ _ _ _ (front2 _ _ _ c.in-len2-up.len_at_least c.arrow-item.is c.first-item.is) (search rules)

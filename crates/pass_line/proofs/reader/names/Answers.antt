@@ -7,8 +7,8 @@ use Rattle.pass_line.proofs.reader.names.Goals as goal
 pub returns-in_default : goal.returns-in_default
 returns-in_default c = names-short _ c.in_default.len_below
 
-pub returns-then-is_symbol : goal.returns-then-is_symbol
-returns-then-is_symbol c =
+pub returns-then-is_close_bracket : goal.returns-then-is_close_bracket
+returns-then-is_close_bracket c =
     names-close _ _ _ (front1 _ _ c.in-len1-up.len_at_least c.first-item.is) (search rules)
     ∙ ap (λ x. Some (x, behind 1 c.args.tokens.now)) (sym c.new.ensures)
 

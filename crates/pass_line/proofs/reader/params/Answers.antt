@@ -8,8 +8,8 @@ use Rattle.pass_line.proofs.reader.params.Goals as goal
 pub returns-in_default-clause-value : goal.returns-in_default-clause-value
 returns-in_default-clause-value c = λ ds f p. params-short ds f p _ c.in_default.len_below
 
-pub returns-then-is_symbol-clause-value : goal.returns-then-is_symbol-clause-value
-returns-then-is_symbol-clause-value c = λ ds f p.
+pub returns-then-is_close_paren-clause-value : goal.returns-then-is_close_paren-clause-value
+returns-then-is_close_paren-clause-value c = λ ds f p.
     params-close ds f p _ _ _ (front1 _ _ c.in-len1-up.len_at_least c.first-item.is) (search rules)
     ∙ ap (λ x. body ds f p x (behind 1 c.args.tokens.now)) (sym c.new-xs.ensures)
 

@@ -4,13 +4,13 @@ use Rattle.pass_line.proofs.Fronts.{behind, front1, length-behind}
 use Rattle.pass_line.proofs.Reading.{params_after-close, params_after-other, params_after-end, params_after-no_variable, params_after-variable, params_after-short}
 use Rattle.pass_line.proofs.reader.params_after.Goals as goal
 
-pub returns-then-is_symbol-clause-value : goal.returns-then-is_symbol-clause-value
-returns-then-is_symbol-clause-value c = λ ds f p.
+pub returns-then-is_close_paren-clause-value : goal.returns-then-is_close_paren-clause-value
+returns-then-is_close_paren-clause-value c = λ ds f p.
     sym (c.loop-rest.invariant.same ds f p)
     ∙ params_after-close ds f p _ _ _ _ (front1 _ _ c.in-len1-up.len_at_least c.separator-item.is) (search rules)
 
-pub returns-then-not-is_symbol-clause-value : goal.returns-then-not-is_symbol-clause-value
-returns-then-not-is_symbol-clause-value c = λ ds f p.
+pub returns-then-not-is_comma-clause-value : goal.returns-then-not-is_comma-clause-value
+returns-then-not-is_comma-clause-value c = λ ds f p.
     sym (c.loop-rest.invariant.same ds f p)
     ∙ params_after-other ds f p _ _ _ _ (front1 _ _ c.in-len1-up.len_at_least c.separator-item.is) (search rules) (search rules)
 

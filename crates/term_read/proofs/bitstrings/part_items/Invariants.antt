@@ -1,8 +1,7 @@
 use Rattle.std.proofs.Common.{◌≡◌, ◌≤◌, length}
 use Rattle.term_read.specs.TermGrammar.{part_at}
-use Rattle.term_read.specs.Reading.{items_of}
+use Rattle.term_read.specs.Reading.{before, items_of}
 use Rattle.term_read.specs.BitParts.{AreParts}
-use Rattle.term_read.proofs.ItemRows.{before}
 use Rattle.term_read.proofs.bitstrings.part_items.Given as goal
 
 abbrev pub invariant-loop-parts : goal.invariant-loop-parts

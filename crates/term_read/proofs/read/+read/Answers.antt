@@ -1,21 +1,13 @@
 use Rattle.std.proofs.Common.{◌≡◌, ◌∙◌, sym, ap, subst, [], map, Some, arith}
 use Rattle.erl_term.specs.View.{view}
 use Rattle.erl_term.specs.WellRows.{AreWellFormed}
-use Rattle.term_read.specs.Reading.{items_of, read_by, pair_by}
-use Rattle.term_read.proofs.ItemRows.{before, before_none, loop_ended, loop_goes_on}
+use Rattle.term_read.specs.Reading.{before, items_of, read_by, pair_by}
+use Rattle.term_read.proofs.ItemRows.{before_none, loop_ended, loop_goes_on}
 use Rattle.term_read.proofs.WellRows.{term_pushed, views_pushed, no_terms, pair_pushed, pair_views_pushed}
 use Rattle.term_read.proofs.FunForm.{fun_read}
+use Rattle.term_read.proofs.Tails.{gives_same, items_then_end, end_proper, end_with_tail, list_closed, list_open, first_and_rest, bracket_form, no_form}
 use Rattle.term_read.proofs.Consuming.{consumes, pair_consumes}
 use Rattle.term_read.proofs.read.+read.Goals as goal
-
-pub items-loop-terms-init : goal.items-loop-terms-init
-items-loop-terms-init t c =
-    let nothing : c.new-terms.result ≡ [] = c.new-terms.ensures in
-    record {
-      read = ap (λ ts. before (map view ts) (items_of (read_by c.args.depth) c.args.cs.now)) nothing ∙ before_none (items_of (read_by c.args.depth) c.args.cs.now);
-      well_formed = subst AreWellFormed (sym nothing) no_terms;
-      fits = omega arith;
-    }
 
 pub items-returns-in-None-clause-value : goal.items-returns-in-None-clause-value
 items-returns-in-None-clause-value t c =
@@ -53,3 +45,30 @@ pub fun_form-returns-clause-value : goal.fun_form-returns-clause-value
 fun_form-returns-clause-value t c =
     fun_read (read_by c.args.depth) _ _ _ _ _ _ c.in_ok-head.ensures.value c.in_ok-captured.ensures.value c.in_ok-rest.ensures.value
     ∙ ap (λ u. Some (u, c.in_ok-rest.rest.now)) (sym c.fun_of.ensures.value)
+
+pub list_end-returns-in_default-clause-value : goal.list_end-returns-in_default-clause-value
+list_end-returns-in_default-clause-value t c =
+    end_proper (read_by c.args.depth) _ _ _ _ c.in_default.ensures.value c.in_ok-rest.ensures.value c.in_ok-proper.ensures.value
+
+pub list_end-returns-clause-value : goal.list_end-returns-clause-value
+list_end-returns-clause-value t c =
+    end_with_tail (read_by c.args.depth) _ _ _ _ _ _ c.in-Some.ensures.value c.in_ok-term.ensures.value c.in_ok-rest-2.ensures.value
+
+pub list_from-returns-clause-value : goal.list_from-returns-clause-value
+list_from-returns-clause-value t c =
+    gives_same _ c.list_end.result _ _ (items_then_end (read_by c.args.depth) _ _ _ _ c.in_ok-terms.ensures.value) c.list_end.ensures.value
+
+pub tail_form-returns-in_default-clause-value : goal.tail_form-returns-in_default-clause-value
+tail_form-returns-in_default-clause-value t c = no_form c.args.depth (read_by c.args.depth) _ _ c.in_default.len_below
+
+pub tail_form-returns-in-Some-clause-value : goal.tail_form-returns-in-Some-clause-value
+tail_form-returns-in-Some-clause-value t c =
+    sym (bracket_form c.args.depth (read_by c.args.depth) _ _ _ _ (first_and_rest _ _ c.in-len1-up.len_at_least c.first-item.is) c.if-first-ne91.false)
+    ∙ list_closed (read_by c.args.depth) _ _ _ _ c.in-Some.ensures.value c.in_ok-proper.ensures.value
+
+pub tail_form-returns-clause-value : goal.tail_form-returns-clause-value
+tail_form-returns-clause-value t c =
+    gives_same _ c.list_from.result _ _
+    (list_open (read_by c.args.depth) _ _ c.in_default-mark_at.ensures.value
+    ∙ bracket_form c.args.depth (read_by c.args.depth) _ _ _ _ (first_and_rest _ _ c.in-len1-up.len_at_least c.first-item.is) c.if-first-ne91.false)
+    c.list_from.ensures.value
