@@ -1,36 +1,14 @@
 -- The equations that the facts of a body meet, one fact for each variable.
-use Rattle.std.specs.Prelude.{◌≡◌, ℕ, zero, suc, ◌+◌, ◌^◌, List, [], ◌∷◌, length, map, Contains, Bool, true, false, not, ◌&&◌, eqb, ltb, Option, Some, None, if◌then◌else◌, ℤ, pos, negsuc}
+use Rattle.std.specs.Prelude.{◌≡◌, ℕ, zero, suc, ◌+◌, ◌^◌, List, [], ◌∷◌, length, map, Contains, Bool, true, false, not, ◌&&◌, eqb, Option, Some, None, if◌then◌else◌, pos}
 use Rattle.erl_term.specs.Term as T
-use Rattle.erl_term.specs.Term.{Term, Terms, none, more, Pairs, no_pair, pair}
+use Rattle.erl_term.specs.Term.{Term}
+use Rattle.erl_term.specs.Ranges.{is_narrow}
 use Rattle.erl_term.specs.Terms.{Values, truth}
 use Rattle.bif_table.specs.BuiltinAnswer.{Answer, value, raised, answer}
 use Rattle.bif_table.specs.Builtins as B
 use Rattle.bif_table.specs.Builtins.{Bif}
 use Rattle.ssa_form.specs.Ssa.{Arg, var, lit, Op, copy, bif, cons, tuple, map_put, make_fun, bs_integer, bs_binary, bs_tail, bs_create, Set, Phi, Block, Body, block_at}
 use Rattle.ssa_form.specs.TypeFacts.{Fact, one_kind, has_kind, any, no_value, exact, join_all}
-
--- Integers of 128 signed bits.
-
-abbrev pub in_range : ℤ → Bool
-in_range (pos n) = ltb n (2 ^ 127)
-in_range (negsuc n) = ltb n (2 ^ 127)
-
-abbrev mutual
-  pub is_narrow : Term → Bool
-  is_narrow (T.int z) = in_range z
-  is_narrow (T.cons t u) = is_narrow t && is_narrow u
-  is_narrow (T.tuple ts) = all_narrow ts
-  is_narrow (T.map ps) = pairs_narrow ps
-  is_narrow (T.fun m s a ts) = all_narrow ts
-  is_narrow t = true
-
-  pub all_narrow : Terms → Bool
-  all_narrow none = true
-  all_narrow (more t ts) = is_narrow t && all_narrow ts
-
-  pub pairs_narrow : Pairs → Bool
-  pairs_narrow no_pair = true
-  pairs_narrow (pair k v ps) = is_narrow k && is_narrow v && pairs_narrow ps
 
 -- Type tests: the kinds of which all terms are accepted, and those of which some are.
 pub record Accepts : Type 0 where

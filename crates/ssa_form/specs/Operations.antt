@@ -23,8 +23,8 @@ use Rattle.ssa_form.specs.Ssa as Ssa
 use Rattle.ssa_form.specs.Ssa.{Arg, var, lit, Op}
 use Rattle.bif_table.specs.TermTests.{compare_holds}
 use Rattle.ssa_form.specs.Checks.{holds, has_keys}
-use Rattle.ssa_form.specs.Storage.{Held, unset, term, context, position, marker, Leaving, calls, ends_body, always_raises, Storage, Frame, After, on, pick, up, over, bad, Mode, plain, tail, jump, tests, Around, in_window, go_on, when, if_some, outside, inside, kept}
-use Rattle.ssa_form.specs.Values.{terms_of, handed, raises_always, puts_of, parts_of, is_tail}
+use Rattle.ssa_form.specs.Storage.{Held, unset, term, context, position, marker, Leaving, calls, ends_body, always_raises, Storage, Frame, After, next, choose, raise, finish, bad, Mode, plain, tail, jump, tests, Around, in_window, go_on, when, if_some, outside, inside, kept}
+use Rattle.ssa_form.specs.Values.{terms_of, handed, never_returns, puts_of, parts_of, is_tail}
 
 module _ {S : Type 0} (o : Storage S) (around : Around) (here : Here) where
   abbrev pub held : Frame S → Arg → Held
@@ -37,8 +37,8 @@ module _ {S : Type 0} (o : Storage S) (around : Around) (here : Here) where
 
   -- a value without a destination is dropped
   abbrev pub put : Option ℕ → Held → Frame S → State → After S
-  put None h f s = on f s
-  put (Some v) h f s = if_some (o.write (in_window f) v h f.store) λ st. on (kept f st) s
+  put None h f s = next f s
+  put (Some v) h f s = if_some (o.write (in_window f) v h f.store) λ st. next (kept f st) s
 
   abbrev pub collected : Frame S → (Frame S → After S) → After S
   collected f k = if_some (o.collects f.store) λ st. k (kept f st)
@@ -48,26 +48,26 @@ module _ {S : Type 0} (o : Storage S) (around : Around) (here : Here) where
 
   -- A value; where the block's last tests the set, it succeeded.
   abbrev pub gives_held : Mode → Option ℕ → Held → Frame S → State → After S
-  gives_held (tests e) dst h f s = go_on (put dst h f s) (pick true)
+  gives_held (tests e) dst h f s = go_on (put dst h f s) (choose true)
   gives_held _ dst h f s = put dst h f s
 
   -- A test without a value, which only the block's last can ask for.
   abbrev pub asked : Mode → Bool → Frame S → State → After S
-  asked (tests e) b f s = pick b f s
+  asked (tests e) b f s = choose b f s
   asked _ b f s = bad
 
   -- A value, or none where the test fails.
   abbrev pub found : Mode → Option ℕ → Option Held → Frame S → State → After S
-  found (tests e) dst None f s = pick false f s
-  found (tests e) dst (Some h) f s = go_on (put dst h f s) (pick true)
+  found (tests e) dst None f s = choose false f s
+  found (tests e) dst (Some h) f s = go_on (put dst h f s) (choose true)
   found _ dst h f s = bad
 
   -- An answer; under a test a raise is no raise.
   abbrev pub answers : Mode → Option ℕ → Answer → Frame S → State → After S
-  answers (tests e) dst (value t) f s = go_on (put dst (term t) f s) (pick true)
-  answers (tests e) dst (raised c r) f s = pick false f s
+  answers (tests e) dst (value t) f s = go_on (put dst (term t) f s) (choose true)
+  answers (tests e) dst (raised c r) f s = choose false f s
   answers _ dst (value t) f s = put dst (term t) f s
-  answers _ dst (raised c r) f s = up c r f s
+  answers _ dst (raised c r) f s = raise c r f s
 
   -- Calls and requests.
 
@@ -76,15 +76,15 @@ module _ {S : Type 0} (o : Storage S) (around : Around) (here : Here) where
 
   abbrev pub follows : Option ℕ → Frame S → State × Outcome Values → After S
   follows dst f (s, gives vs) = put dst (term (only vs)) f s
-  follows dst f (s, raises c r) = up c r f s
-  follows dst f (s, waits q) = over s (waits q)
-  follows dst f (s, spent) = over s spent
+  follows dst f (s, raises c r) = raise c r f s
+  follows dst f (s, waits q) = finish s (waits q)
+  follows dst f (s, spent) = finish s spent
 
   abbrev pub ends_with : State × Outcome Values → After S
-  ends_with (s, gives vs) = over s (gives (only vs))
-  ends_with (s, raises c r) = over s (raises c r)
-  ends_with (s, waits q) = over s (waits q)
-  ends_with (s, spent) = over s spent
+  ends_with (s, gives vs) = finish s (gives (only vs))
+  ends_with (s, raises c r) = finish s (raises c r)
+  ends_with (s, waits q) = finish s (waits q)
+  ends_with (s, spent) = finish s spent
 
   abbrev pub calls_by : Mode → Leaving → Option ℕ → M Values → Frame S → State → After S
   calls_by tail l dst m f s = leaving ends_body f λ g. ends_with (m s)
@@ -102,7 +102,7 @@ module _ {S : Type 0} (o : Storage S) (around : Around) (here : Here) where
 
   abbrev pub remote_does : Mode → Option ℕ → Values → Frame S → State → After S
   remote_does mode dst (m ∷ g ∷ vs) f s =
-      calls_by mode (leaving_of (raises_always m g (length vs))) dst (call_terms here.own m g vs) f s
+      calls_by mode (leaving_of (never_returns m g (length vs))) dst (call_terms here.own m g vs) f s
   remote_does mode dst _ f s = bad
 
   abbrev pub fun_does : Option ℕ → Values → Frame S → State → After S
@@ -176,7 +176,7 @@ module _ {S : Type 0} (o : Storage S) (around : Around) (here : Here) where
 
   abbrev pub restore_does : List Held → Frame S → State → After S
   restore_does (c ∷ position p ∷ []) f s =
-      with_context f c λ n w. on (record f { contexts = moved n (min p (length w.bits)) f.contexts }) s
+      with_context f c λ n w. next (record f { contexts = moved n (min p (length w.bits)) f.contexts }) s
   restore_does _ f s = bad
 
   abbrev pub created : Option (List Bool) → Answer
@@ -187,49 +187,49 @@ module _ {S : Type 0} (o : Storage S) (around : Around) (here : Here) where
 
   abbrev pub open_does : Mode → Option ℕ → Frame S → State → After S
   open_does (tests e) (Some v) f s =
-      outside f (if_some (o.opens (record { tag = v; landing = e }) f.store) λ st. pick true (kept f st) s)
+      outside f (if_some (o.opens (record { tag = v; landing = e }) f.store) λ st. choose true (kept f st) s)
   open_does _ _ f s = bad
 
   abbrev pub close_does : List Arg → Frame S → State → After S
-  close_does (var v ∷ []) f s = outside f (if_some (o.closes v f.store) λ st. on (kept f st) s)
+  close_does (var v ∷ []) f s = outside f (if_some (o.closes v f.store) λ st. next (kept f st) s)
   close_does _ f s = bad
 
   -- Receives.
 
   abbrev pub seen : ℕ → Message → Frame S → State → After S
-  seen v m f s = go_on (put (Some v) (term m.term) (record (forgotten f) { window = Some m }) s) (pick true)
+  seen v m f s = go_on (put (Some v) (term m.term) (record (forgotten f) { window = Some m }) s) (choose true)
 
   abbrev pub seen_or : ℕ → Frame S → State → After S → After S
   seen_or v f s a = elim (slice_get s.mailbox f.save) [ Some m ↦ seen v m f s | None ↦ a ]
 
   abbrev pub looks : ℕ → List Reply → Frame S → State → After S
-  looks v [] f s = over s (waits W.look)
-  looks v (r ∷ rs) f s = seen_or v f (answered W.look r rs s) (pick false (forgotten f) (answered W.look r rs s))
+  looks v [] f s = finish s (waits W.look)
+  looks v (r ∷ rs) f s = seen_or v f (answered W.look r rs s) (choose false (forgotten f) (answered W.look r rs s))
 
   abbrev pub peek_does : Mode → Option ℕ → Frame S → State → After S
   peek_does (tests e) (Some v) f s = outside f (seen_or v f s (looks v s.replies f s))
   peek_does _ _ f s = bad
 
   abbrev pub take_does : Frame S → State → After S
-  take_does f s = inside f λ m. on (record f { save = 0; window = None }) (record s {
+  take_does f s = inside f λ m. next (record f { save = 0; window = None }) (record s {
     mailbox = without m.serial s.mailbox;
     notes = happened (W.taken m.serial) ∷ looked (record { serial = m.serial; accepted = true }) ∷ s.notes;
   })
 
   abbrev pub skip_does : Mode → Frame S → State → After S
-  skip_does jump f s = inside f λ m. on (record (forgotten f) { save = suc f.save; window = None })
+  skip_does jump f s = inside f λ m. next (record (forgotten f) { save = suc f.save; window = None })
       (noting (looked (record { serial = m.serial; accepted = false })) s)
   skip_does _ f s = bad
 
   abbrev pub waited : Delay → List Reply → Frame S → State → After S
-  waited d [] f s = over s (waits (W.wait d))
-  waited forever (r ∷ rs) f s = pick true f (answered (W.wait forever) r rs s)
-  waited (millis n) (r ∷ rs) f s = pick (new_or r.arrivals false true) f (answered (W.wait (millis n)) r rs s)
+  waited d [] f s = finish s (waits (W.wait d))
+  waited forever (r ∷ rs) f s = choose true f (answered (W.wait forever) r rs s)
+  waited (millis n) (r ∷ rs) f s = choose (new_or r.arrivals false true) f (answered (W.wait (millis n)) r rs s)
 
   abbrev pub waits_for : Timeout → Frame S → State → After S
-  waits_for now f s = pick false f s
+  waits_for now f s = choose false f s
   waits_for (in' d) f s = waited d s.replies f s
-  waits_for wrong f s = up T.error (word (codes "timeout_value")) (record f { save = 0 }) s
+  waits_for wrong f s = raise T.error (word (codes "timeout_value")) (record f { save = 0 }) s
 
   abbrev pub wait_does : Mode → Values → Frame S → State → After S
   wait_does (tests e) (t ∷ []) f s = outside f (waits_for (timeout_of t) (forgotten f) s)
@@ -239,12 +239,12 @@ module _ {S : Type 0} (o : Storage S) (around : Around) (here : Here) where
 
   abbrev pub bind_does : List Held → Frame S → State → After S
   bind_does (marker n ∷ term (T.reference r) ∷ []) f s =
-      on f (noting (marked (record { reference = T.reference r; serial = n; before = [] })) s)
+      next f (noting (marked (record { reference = T.reference r; serial = n; before = [] })) s)
   bind_does _ f s = bad
 
   -- a receive for a reference begins: the save place is that of the serial below which it passes messages over
   abbrev pub begins : Term → Standing → Frame S → State → After S
-  begins r a f s = on (record f { save = place_of (after_note (began (Some r)) a).low s.mailbox }) (noting (began (Some r)) s)
+  begins r a f s = next (record f { save = place_of (after_note (began (Some r)) a).low s.mailbox }) (noting (began (Some r)) s)
 
   abbrev pub use_does : Values → Frame S → State → After S
   use_does (T.reference r ∷ []) f s = outside f (begins (T.reference r) (standing around.choices s.notes) f s)
@@ -273,7 +273,7 @@ module _ {S : Type 0} (o : Storage S) (around : Around) (here : Here) where
   on_terms Ssa.take_message mode dst [] f s = take_does f s
   on_terms Ssa.skip_message mode dst [] f s = skip_does mode f s
   on_terms Ssa.wait mode dst vs f s = wait_does mode vs f s
-  on_terms Ssa.reset mode dst [] f s = outside f (on (record f { save = 0 }) s)
+  on_terms Ssa.reset mode dst [] f s = outside f (next (record f { save = 0 }) s)
   on_terms Ssa.reserve mode dst [] f s = put dst (marker s.next) f s
   on_terms Ssa.use_marker mode dst vs f s = use_does vs f s
   on_terms _ mode dst vs f s = bad

@@ -1,17 +1,17 @@
 -- What a body does: its blocks, wherever the variables' values are kept, and then with a value for each variable.
-use Rattle.std.specs.Prelude.{◌≡◌, ℕ, zero, suc, List, [], ◌∷◌, Bool, true, false, ◌&&◌, eqb, Option, Some, None, if◌then◌else◌, codes}
-use Rattle.erl_base.specs.Names.{same_name}
+use Rattle.std.specs.Prelude.{◌≡◌, ℕ, zero, suc, List, [], ◌∷◌, Bool, true, false, ◌&&◌, eqb, Option, Some, None, if◌then◌else◌}
 use Rattle.erl_term.specs.Term as T
 use Rattle.erl_term.specs.Term.{Term, Class}
 use Rattle.erl_term.specs.TermOrder.{same_term}
 use Rattle.erl_term.specs.Terms.{Values, class_word}
+use Rattle.bif_table.specs.Kinds.{truth_of}
 use Rattle.world_model.specs.World.{Message}
 use Rattle.world_model.specs.Run.{State, Outcome, gives, raises}
 use Rattle.world_model.specs.Requests.{exit_of}
 use Rattle.step_machine.specs.Bodies.{Here}
 use Rattle.step_machine.specs.Frames.{MatchContext}
 use Rattle.ssa_form.specs.Ssa.{Arg, var, Op, landing, catch_end, FrameAction, Set, Last, br, succeeded, switch, ret, Phi, Block, Body, block_at}
-use Rattle.ssa_form.specs.Storage.{Held, unset, term, Handler, Leaving, ends_body, Storage, Frame, After, on, pick, up, over, Ended, done, unfinished, Mode, plain, tail, jump, tests, Around, in_window, go_on, when, if_some, outside, kept}
+use Rattle.ssa_form.specs.Storage.{Held, unset, term, Handler, Leaving, ends_body, Storage, Frame, After, next, choose, raise, finish, Ended, done, unfinished, Mode, plain, tail, jump, tests, Around, in_window, go_on, when, if_some, outside, kept}
 use Rattle.ssa_form.specs.Operations.{held, all_held, put, forgotten, follows, leaving, does}
 
 -- what was raised, and the handler that takes it
@@ -26,9 +26,9 @@ is_dst _ _ = false
 
 -- how the last takes a set with this destination, which these sets and actions follow
 abbrev pub mode_of : Option ℕ → List Set → List FrameAction → Last → Mode
-mode_of d [] [] (succeeded v t e) = tests e
+mode_of d [] [] (succeeded v pass fail) = tests fail
 mode_of d [] [] (ret a) = if is_dst d a then tail else plain
-mode_of d [] [] (br a t e) = if eqb t e then jump else plain
+mode_of d [] [] (br a pass fail) = if eqb pass fail then jump else plain
 mode_of d xs as' l = plain
 
 -- The first sets of a block where a raise lands: three `landing`, for class, reason and trace, or a `catch_end`.
@@ -58,13 +58,13 @@ ends_catch v x = is_catch_end x.op && reads_tag v x.args && none_before x.before
 
 -- Lasts.
 
-abbrev pub truth_of : Held → Option Bool
-truth_of (term (T.atom a)) = if same_name a (codes "true") then Some true else if same_name a (codes "false") then Some false else None
-truth_of _ = None
+abbrev pub truth_in : Held → Option Bool
+truth_in (term t) = truth_of t
+truth_in _ = None
 
 abbrev pub picked : Bool → ℕ → ℕ → ℕ
-picked true t e = t
-picked false t e = e
+picked true pass fail = pass
+picked false pass fail = fail
 
 unfoldable pub choice_of : List (Term × ℕ) → Term → ℕ → ℕ
 unfolding same_term
@@ -74,7 +74,7 @@ choice_of (c ∷ cs) t d = if same_term c.0 t then c.1 else choice_of cs t d
 -- the argument that comes along the edge from block n
 abbrev pub from_edge : List (ℕ × Arg) → ℕ → Option Arg
 from_edge [] n = None
-from_edge (e ∷ es) n = if eqb n e.0 then Some e.1 else from_edge es n
+from_edge (p ∷ ps) n = if eqb n p.0 then Some p.1 else from_edge ps n
 
 abbrev pub if_set : Held → Option Held
 if_set unset = None
@@ -89,13 +89,13 @@ either_end true a b = a
 either_end false a b = b
 
 abbrev pub unless_looking : Option Message → Ended → Ended
-unless_looking None e = e
-unless_looking (Some m) e = Ended.bad
+unless_looking None r = r
+unless_looking (Some m) r = Ended.bad
 
 module _ {S : Type 0} (o : Storage S) (around : Around) (here : Here) where
   abbrev pub acts_do : List FrameAction → Frame S → State → After S
-  acts_do [] f s = on f s
-  acts_do (a ∷ as') f s = go_on (if_some (o.acts (in_window f) a f.store) λ st. on (kept f st) s) (acts_do as')
+  acts_do [] f s = next f s
+  acts_do (a ∷ as') f s = go_on (if_some (o.acts (in_window f) a f.store) λ st. next (kept f st) s) (acts_do as')
 
   abbrev pub set_does : Mode → Set → Frame S → State → After S
   set_does mode x f s = go_on (acts_do x.before f s) λ g u. does o around here x.op x.args mode x.dst (all_held o around here g x.args) g u
@@ -115,7 +115,7 @@ module _ {S : Type 0} (o : Storage S) (around : Around) (here : Here) where
   phi_values (p ∷ ps) n f = with_phi p.dst (arg_held f (from_edge p.from n)) (phi_values ps n f)
 
   abbrev pub put_each : List (ℕ × Held) → Frame S → State → After S
-  put_each [] f s = on f s
+  put_each [] f s = next f s
   put_each (p ∷ ps) f s = go_on (put o around here (Some p.0) p.1 f s) (put_each ps)
 
   -- Landings. The handler closes first.
@@ -148,8 +148,8 @@ module _ {S : Type 0} (o : Storage S) (around : Around) (here : Here) where
   Go = Option Raised → ℕ → ℕ → Frame S → State → Ended
 
   abbrev pub goes_by : Option Bool → Go → ℕ → ℕ → ℕ → Frame S → State → Ended
-  goes_by None go n t e f s = Ended.bad
-  goes_by (Some b) go n t e f s = go None n (picked b t e) f s
+  goes_by None go n pass fail f s = Ended.bad
+  goes_by (Some b) go n pass fail f s = go None n (picked b pass fail) f s
 
   unfoldable pub switched : Held → Go → ℕ → ℕ → List (Term × ℕ) → Frame S → State → Ended
   unfolding choice_of
@@ -157,24 +157,25 @@ module _ {S : Type 0} (o : Storage S) (around : Around) (here : Here) where
   switched _ go n d cs f s = Ended.bad
 
   abbrev pub ended : After S → Ended
-  ended (over s r) = done s r
+  ended (finish s r) = done s r
   ended _ = Ended.bad
 
   -- a body ends outside the window, with the save place at the mailbox's start
   abbrev pub returned : Held → Frame S → State → Ended
-  returned (term t) f s = ended (leaving o around here ends_body f λ g. over s (gives t))
+  returned (term t) f s = ended (leaving o around here ends_body f λ g. finish s (gives t))
   returned _ f s = Ended.bad
 
   -- a branch whose targets are one does not look at its argument
-  abbrev pub leave_on : Go → ℕ → Last → Frame S → State → Ended
-  leave_on go n (br a t e) f s = either_end (eqb t e) (go None n t f s) (goes_by (truth_of (held o around here f a)) go n t e f s)
-  leave_on go n (succeeded v t e) f s = Ended.bad
-  leave_on go n (switch a d cs) f s = switched (held o around here f a) go n d cs f s
-  leave_on go n (ret a) f s = returned (held o around here f a) f s
+  abbrev pub leave_next : Go → ℕ → Last → Frame S → State → Ended
+  leave_next go n (br a pass fail) f s =
+      either_end (eqb pass fail) (go None n pass f s) (goes_by (truth_in (held o around here f a)) go n pass fail f s)
+  leave_next go n (succeeded v pass fail) f s = Ended.bad
+  leave_next go n (switch a d cs) f s = switched (held o around here f a) go n d cs f s
+  leave_next go n (ret a) f s = returned (held o around here f a) f s
 
-  abbrev pub leave_pick : Go → ℕ → Last → Bool → Frame S → State → Ended
-  leave_pick go n (succeeded v t e) b f s = go None n (picked b t e) f s
-  leave_pick go n _ b f s = Ended.bad
+  abbrev pub leave_choose : Go → ℕ → Last → Bool → Frame S → State → Ended
+  leave_choose go n (succeeded v pass fail) b f s = go None n (picked b pass fail) f s
+  leave_choose go n _ b f s = Ended.bad
 
   abbrev pub raised_to : Option Handler → Go → ℕ → Class → Term → Frame S → State → Ended
   raised_to (Some h) go n c r f s = go (Some (record { tag = h.tag; class = c; reason = r })) n h.landing (forgotten o around here f) s
@@ -182,10 +183,10 @@ module _ {S : Type 0} (o : Storage S) (around : Around) (here : Here) where
 
   -- a raise comes outside the window
   abbrev pub leave : Go → ℕ → Last → After S → Ended
-  leave go n l (on f s) = leave_on go n l f s
-  leave go n l (pick b f s) = leave_pick go n l b f s
-  leave go n l (up c r f s) = unless_looking f.window (raised_to (o.handler f.store) go n c r f s)
-  leave go n l (over s r) = done s r
+  leave go n l (next f s) = leave_next go n l f s
+  leave go n l (choose b f s) = leave_choose go n l b f s
+  leave go n l (raise c r f s) = unless_looking f.window (raised_to (o.handler f.store) go n c r f s)
+  leave go n l (finish s r) = done s r
   leave go n l After.bad = Ended.bad
 
   abbrev pub entered_by : ℕ → ℕ → Block → Option Raised → Frame S → State → After S

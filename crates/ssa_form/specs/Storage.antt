@@ -48,10 +48,10 @@ pub record Frame (S : Type 0) : Type 0 where
 
 -- What follows a set: the next one, a choice between the two blocks of a last, a raise, an end, or a broken rule.
 pub data After (S : Type 0) : Type 0 where
-  on : Frame S → State → After S
-  pick : Bool → Frame S → State → After S
-  up : Class → Term → Frame S → State → After S
-  over : State → Outcome Term → After S
+  next : Frame S → State → After S
+  choose : Bool → Frame S → State → After S
+  raise : Class → Term → Frame S → State → After S
+  finish : State → Outcome Term → After S
   bad : After S
 
 -- How a run of a body stands: it is over, it broke a rule, or it needs more blocks than it was allowed.
@@ -76,10 +76,10 @@ abbrev pub in_window : {S : Type 0} → Frame S → Bool
 in_window f = elim f.window [ None ↦ false | Some m ↦ true ]
 
 abbrev pub go_on : {S : Type 0} → After S → (Frame S → State → After S) → After S
-go_on (on f s) k = k f s
-go_on (pick b f s) k = pick b f s
-go_on (up c r f s) k = up c r f s
-go_on (over s o) k = over s o
+go_on (next f s) k = k f s
+go_on (choose b f s) k = choose b f s
+go_on (raise c r f s) k = raise c r f s
+go_on (finish s o) k = finish s o
 go_on After.bad k = After.bad
 
 abbrev pub when : {S : Type 0} → Bool → After S → After S

@@ -61,10 +61,10 @@ abbrev pub handed : Bool → List MatchContext → List (ℕ × ℕ) → ℕ →
 handed ends cs reached n hs = handed_from 0 ends cs reached n hs
 
 -- a function of the module erlang that always raises
-abbrev pub raises_always : Term → Term → ℕ → Bool
-raises_always (T.atom m) (T.atom f) n =
+abbrev pub never_returns : Term → Term → ℕ → Bool
+never_returns (T.atom m) (T.atom f) n =
     same_name m (codes "erlang") && B.raises_always f n
-raises_always _ _ n = false
+never_returns _ _ n = false
 
 -- Operands in groups: keys with values, values with sizes.
 
