@@ -8,7 +8,7 @@ use Rattle.step_machine.specs.Bodies.{Here}
 use Rattle.ssa_form.specs.Ssa.{Last, br, succeeded, switch, ret, Block, Body, block_at}
 use Rattle.ssa_form.specs.Storage.{Held, term, Handler, Storage, Frame, After, next, choose, raise, finish, Ended, done, unfinished, Around}
 use Rattle.ssa_form.specs.Operations.{held}
-use Rattle.ssa_form.specs.SsaRun.{Raised, picked, truth_in, choice_of, leave, leave_next, leave_choose, raised_to, switched, goes_by, either_end, unless_looking, block_does, entered_by, blocks, in_vars, ssa_run, Gives}
+use Rattle.ssa_form.specs.SsaRun.{Raised, picked, truth_in, choice_of, leave, leave_next, leave_choose, raised_to, switched, goes_by, either_end, unless_looking, block_does, entered_by, blocks, in_vars, ssa_run, SsaGives}
 
 either_more : (b : Bool) (p q r t : Ended) → (p ≢ unfinished → r ≡ p) → (q ≢ unfinished → t ≡ q) → either_end b p q ≢ unfinished → either_end b r t ≡ either_end b p q
 either_more true p q r t h g u = h u
@@ -93,7 +93,7 @@ same_done r q e = ap (λ x. result_in x r) e
 not_unfinished : (s : State) (p : Outcome Term) (x : Ended) → x ≡ done s p → x ≢ unfinished
 not_unfinished s p x e u = let d : done s p ≡ unfinished = sym e ∙ u in cc
 
-pub one_result : (around : Around) (here : Here) (b : Body) (vs : Values) (s : State) (r q : State × Outcome Term) → Gives around here b vs s r → Gives around here b vs s q → r ≡ q
+pub one_result : (around : Around) (here : Here) (b : Body) (vs : Values) (s : State) (r q : State × Outcome Term) → SsaGives around here b vs s r → SsaGives around here b vs s q → r ≡ q
 unfolding ssa_run
 one_result around here b vs s r q g h = ⊎_elim
     (λ l. sym (same_done _ _ (sym h.ends ∙ more in_vars around here b g.within h.within l _ _ _ _ _ (not_unfinished _ _ _ g.ends) ∙ g.ends)))

@@ -13,7 +13,7 @@ use Rattle.step_machine.specs.EntryBound.{Lowers}
 use Rattle.step_machine.specs.Frames.{rest_of}
 use Rattle.ssa_form.specs.Ssa as Ssa
 use Rattle.ssa_form.specs.Ssa.{Arg, var, lit, Op}
-use Rattle.ssa_form.specs.Checks.{holds}
+use Rattle.ssa_form.specs.Checks.{check_holds}
 use Rattle.ssa_form.specs.Storage.{Held, unset, term, context, position, marker, Handler, Frame, After, next, choose, raise, finish, Mode, plain, tail, jump, tests, go_on, if_some}
 use Rattle.ssa_form.specs.Values.{terms_of, parts_of}
 use Rattle.ssa_form.specs.SetFacts.{is_tests, may_raise, never_raises, is_peek, breaks_cycle}
@@ -156,7 +156,7 @@ module _ {S : Type 0} (w : Walk S) where
     terms_quiet (Ssa.element n) m dst vs h = element_quiet w m _ n dst vs w.f0 w.s0 start
     terms_quiet Ssa.hd m dst vs h = cell_quiet w m _ true dst vs w.f0 w.s0 start
     terms_quiet Ssa.tl m dst vs h = cell_quiet w m _ false dst vs w.f0 w.s0 start
-    terms_quiet (Ssa.check c) m dst vs h = some_quiet w m _ (holds c vs) _ (λ b p. asked_quiet w m _ b w.f0 w.s0 start)
+    terms_quiet (Ssa.check c) m dst vs h = some_quiet w m _ (check_holds c vs) _ (λ b p. asked_quiet w m _ b w.f0 w.s0 start)
     terms_quiet (Ssa.make_fun n) m dst vs h = collected_quiet w m _ w.f0 w.s0 _ start (λ g e. fun_made_quiet w m _ n dst vs g w.s0 e)
     terms_quiet Ssa.call_fun m dst vs h = fun_quiet w lowers m dst vs w.f0 w.s0 start
     terms_quiet Ssa.call_remote m dst vs h = remote_quiet w lowers m dst vs w.f0 w.s0 start

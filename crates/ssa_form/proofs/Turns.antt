@@ -13,7 +13,7 @@ use Rattle.ssa_form.specs.Ssa as Ssa
 use Rattle.ssa_form.specs.Ssa.{Op, Set, Last, br, succeeded, switch, ret, Block, Body, block_at}
 use Rattle.ssa_form.specs.Storage.{Held, unset, term, context, position, marker, Handler, ends_body, Storage, Frame, After, next, choose, raise, finish, Ended, done, unfinished, Around, go_on, when, if_some, kept}
 use Rattle.ssa_form.specs.SetFacts.{given_vars, is_peek, breaks_cycle}
-use Rattle.ssa_form.specs.Flow.{point, last_in, last_at, last_of, targets, goes, Reached, Passing, one, Effect, entering, Step, leads, succeeds, fails, raises}
+use Rattle.ssa_form.specs.Flow.{point, last_in, last_at, last_of, targets, goes, Reached, Passing, one, Effect, along_edge, Step, leads, succeeds, fails, raises}
 use Rattle.ssa_form.specs.WellFormed.{any_op, block_has, any_has, tests_nothing, lands_for, is_landing_for}
 use Rattle.ssa_form.specs.Operations.{held, forgotten}
 use Rattle.ssa_form.specs.SsaRun.{Raised, lands, ends_catch, truth_in, picked, choice_of, landed, put_each, phi_values, begins, entered_by, goes_by, switched, ended, returned, leave_next, leave_choose, raised_to, either_end, unless_looking, leave, block_does, blocks, first_handler}
@@ -211,10 +211,10 @@ module _ {S : Type 0} (o : Storage S) (around : Around) (here : Here) (lowers : 
       pick_turn : (v : Bool) (l : Last) → x.last ≡ l → (p : Chosen b c.at x there open_in x.chain c.frame c.state v g u) → Tested [] l p.tested
           → ((j : ℕ) → runs (suc j) c ≡ leave_choose o around here (blocks o around here b j) c.at l v g u) → Turn c
       pick_turn true l e p t h = enters_next t.holds p.at p.before _ g u p.reached
-          (subst (λ hs. Step b (point c.at p.at) p.before (point t.holds 0) hs (entering b c.at t.holds (given_vars p.by))) (sym p.handlers) (succeeds (point c.at p.at) p.before p.by t.var t.holds p.tested p.is_there (ap last_of there ∙ ap (λ y. Some y) (e ∙ t.last))))
+          (subst (λ hs. Step b (point c.at p.at) p.before (point t.holds 0) hs (along_edge b c.at t.holds (given_vars p.by))) (sym p.handlers) (succeeds (point c.at p.at) p.before p.by t.var t.holds p.tested p.is_there (ap last_of there ∙ ap (λ y. Some y) (e ∙ t.last))))
           p.fits p.low p.falls p.looks (λ j. h j ∙ ap (λ y. leave_choose o around here (blocks o around here b j) c.at y true g u) t.last)
       pick_turn false l e p t h = enters_next p.tested p.at p.before _ g u p.reached
-          (subst (λ hs. Step b (point c.at p.at) p.before (point p.tested 0) hs (entering b c.at p.tested [])) (sym p.handlers) (fails (point c.at p.at) p.before p.by p.tested p.is_there (p.starts refl)))
+          (subst (λ hs. Step b (point c.at p.at) p.before (point p.tested 0) hs (along_edge b c.at p.tested [])) (sym p.handlers) (fails (point c.at p.at) p.before p.by p.tested p.is_there (p.starts refl)))
           p.fits p.low p.falls p.looks (λ j. h j ∙ ap (λ y. leave_choose o around here (blocks o around here b j) c.at y false g u) t.last)
 
   -- A raise.
@@ -250,11 +250,11 @@ module _ {S : Type 0} (o : Storage S) (around : Around) (here : Here) (lowers : 
         reached : Reached b (point c.at p.at) (h ∷ is')
         reached = subst (Reached b (point c.at p.at)) e p.reached
 
-        raised : Step b (point c.at p.at) (h ∷ is') (point h.landing 0) is' (entering b c.at h.landing [])
+        raised : Step b (point c.at p.at) (h ∷ is') (point h.landing 0) is' (along_edge b c.at h.landing [])
         raised = raises (point c.at p.at) h is' p.by p.mode p.is_there p.may
 
         into_landing : Reached b (point h.landing 0) is'
-        into_landing = into c x there h.landing p.at (h ∷ is') is' (entering b c.at h.landing []) reached raised
+        into_landing = into c x there h.landing p.at (h ∷ is') is' (along_edge b c.at h.landing []) reached raised
 
         breaks_in : (y : Option Block) → IsTrue (is_landing_for h.tag y) → IsTrue (block_has breaks_cycle y)
         breaks_in None q = absurd cc

@@ -18,7 +18,7 @@ use Rattle.step_machine.specs.Bodies.{Here, callees}
 use Rattle.step_machine.specs.Frames.{MatchContext, rest_of}
 use Rattle.ssa_form.specs.Ssa as Ssa
 use Rattle.ssa_form.specs.Ssa.{Arg, var, lit, Op}
-use Rattle.ssa_form.specs.Checks.{holds}
+use Rattle.ssa_form.specs.Checks.{check_holds}
 use Rattle.ssa_form.specs.Storage.{Held, unset, term, context, position, marker, Handler, Leaving, calls, ends_body, always_raises, Frame, After, next, choose, raise, finish, Mode, plain, tail, jump, tests, Around, go_on, when, if_some, outside}
 use Rattle.ssa_form.specs.Values.{terms_of, handed, never_returns, puts_of, parts_of, is_tail}
 use Rattle.ssa_form.specs.SetFacts.{gives_nothing, is_try_start, names_handler}
@@ -360,7 +360,7 @@ module _ (around : Around) (here : Here) (V W : ℕ → Held) (d : Option ℕ) (
   terms_both (Ssa.element k) m vs = element_both around here V W d true n w hs k vs c s
   terms_both Ssa.hd m vs = cell_both around here V W d true n w hs true vs c s
   terms_both Ssa.tl m vs = cell_both around here V W d true n w hs false vs c s
-  terms_both (Ssa.check k) m vs = some_both around here V W d false (holds k vs) _ _ (λ b. asked_both around here V W d false n w hs m b c s (λ t u. dry_of false refl t))
+  terms_both (Ssa.check k) m vs = some_both around here V W d false (check_holds k vs) _ _ (λ b. asked_both around here V W d false n w hs m b c s (λ t u. dry_of false refl t))
   terms_both (Ssa.make_fun k) m vs = fun_made_both around here V W d true n w hs k vs c s
   terms_both Ssa.call_fun m vs = fun_both around here V W d true n w hs vs c s
   terms_both Ssa.call_remote m vs = remote_both around here V W d true n w hs m vs c s

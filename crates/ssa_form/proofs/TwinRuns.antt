@@ -16,7 +16,7 @@ use Rattle.step_machine.specs.Frames.{MatchContext}
 use Rattle.ssa_form.specs.Ssa.{Arg, Set, Last, br, succeeded, switch, ret, Phi, Block, Body, block_at}
 use Rattle.ssa_form.specs.Storage.{Held, unset, term, context, position, marker, Handler, Frame, After, finish, Ended, Around, go_on, when, if_some}
 use Rattle.ssa_form.specs.SetFacts.{arg_vars, given_vars, all_among, none_among}
-use Rattle.ssa_form.specs.Flow.{point, set_at, last_in, last_at, last_of, targets, phis_at, phi_vars, edge_vars, phi_reads, after_op, entering, Way, goes, begins, Step, leads, succeeds, fails, raises}
+use Rattle.ssa_form.specs.Flow.{point, set_at, last_in, last_at, last_of, targets, phis_at, phi_vars, edge_vars, phi_reads, after_op, along_edge, Way, goes, begins, Step, leads, succeeds, fails, raises}
 use Rattle.ssa_form.specs.Liveness.{set_vars, end_vars, last_vars, value_vars}
 use Rattle.ssa_form.specs.WellFormed.{WellFormed, tests_nothing, tags_in}
 use Rattle.ssa_form.specs.Operations.{held, put, follows}
@@ -211,15 +211,15 @@ module _ (b : Body) (around : Around) (here : Here) (lowers : Lowers here.enter)
     pub reads : IsTrue (all_among (phi_reads (phis_at b n) from) before)
     pub values : IsTrue (none_among (phi_reads (phis_at b n) from) (tags_in b.blocks))
 
-  arrives_by : (n m k : ℕ) (hs is' : List Handler) (sets vs : List ℕ) (X Y : ℕ → Held) (now : List Handler) (e : Option Raised) → Way b (point n k) vs hs → Step b (point n k) hs (point m 0) is' (entering b n m sets) → Alike b (sets ++ vs) X Y → Opened e now is' → Arrives n m e X Y now
+  arrives_by : (n m k : ℕ) (hs is' : List Handler) (sets vs : List ℕ) (X Y : ℕ → Held) (now : List Handler) (e : Option Raised) → Way b (point n k) vs hs → Step b (point n k) hs (point m 0) is' (along_edge b n m sets) → Alike b (sets ++ vs) X Y → Opened e now is' → Arrives n m e X Y now
   arrives_by n m k hs is' sets vs X Y now e way step alike opened = record {
     before = sets ++ vs;
     inner = is';
     opened = opened;
-    way = subst (λ ws. Way b (point m 0) ws is') (append_assoc (phi_vars (phis_at b m)) sets vs) (goes (point n k) (point m 0) vs hs is' (entering b n m sets) way step);
+    way = subst (λ ws. Way b (point m 0) ws is') (append_assoc (phi_vars (phis_at b m)) sets vs) (goes (point n k) (point m 0) vs hs is' (along_edge b n m sets) way step);
     alike = alike;
-    reads = formed.edges (point n k) (point m 0) vs hs is' (entering b n m sets) way step;
-    values = formed.edge_values (point n k) (point m 0) hs is' (entering b n m sets) (vs, way) step;
+    reads = formed.edges (point n k) (point m 0) vs hs is' (along_edge b n m sets) way step;
+    values = formed.edge_values (point n k) (point m 0) hs is' (along_edge b n m sets) (vs, way) step;
   }
 
   -- what comes going is the same

@@ -43,9 +43,9 @@ key_test (t ∷ ks) = map_has ks t
 key_test _ = None
 
 -- whether a test holds; None: it may not be asked of these terms
-abbrev pub holds : Check → Values → Option Bool
-holds (test c) vs = type_test c vs
-holds (compares c) vs = comparison c vs
-holds (test_arity n) vs = size_test n vs
-holds (is_tagged_tuple n a) vs = tag_test n a vs
-holds has_map_fields vs = key_test vs
+abbrev pub check_holds : Check → Values → Option Bool
+check_holds (test c) vs = type_test c vs
+check_holds (compares c) vs = comparison c vs
+check_holds (test_arity n) vs = size_test n vs
+check_holds (is_tagged_tuple n a) vs = tag_test n a vs
+check_holds has_map_fields vs = key_test vs

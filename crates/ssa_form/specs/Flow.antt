@@ -75,8 +75,8 @@ abbrev pub setting : List ℕ → Effect
 setting vs = record { sets = vs; reads = []; phis = [] }
 
 -- into block m from block n, after some variables were set
-abbrev pub entering : Body → ℕ → ℕ → List ℕ → Effect
-entering b n m vs = record { sets = vs; reads = phi_reads (phis_at b m) n; phis = phi_vars (phis_at b m) }
+abbrev pub along_edge : Body → ℕ → ℕ → List ℕ → Effect
+along_edge b n m vs = record { sets = vs; reads = phi_reads (phis_at b m) n; phis = phi_vars (phis_at b m) }
 
 -- the handlers that are open after a set
 abbrev pub after_op : Op → List Handler → List Handler
@@ -93,13 +93,13 @@ pub data Step (b : Body) : Point → List Handler → Point → List Handler →
   passes : (p : Point) (hs : List Handler) (x : Set) (m : Mode) → set_at b p ≡ Some (x, m) → IsFalse (is_tests m)
       → Step b p hs (next p) (after_op x.op hs) (setting (given_vars x))
   leads : (p : Point) (hs : List Handler) (l : Last) (n : ℕ) → last_at b p ≡ Some l → Contains (targets l) n
-      → Step b p hs (point n 0) hs (entering b p.block n [])
+      → Step b p hs (point n 0) hs (along_edge b p.block n [])
   succeeds : (p : Point) (hs : List Handler) (x : Set) (v t e : ℕ) → set_at b p ≡ Some (x, tests e) → last_of (block_at b p.block) ≡ Some (succeeded v t e)
-      → Step b p hs (point t 0) (opened x.op x.dst e hs) (entering b p.block t (given_vars x))
+      → Step b p hs (point t 0) (opened x.op x.dst e hs) (along_edge b p.block t (given_vars x))
   fails : (p : Point) (hs : List Handler) (x : Set) (e : ℕ) → set_at b p ≡ Some (x, tests e) → (x.op ≡ try_start → ⊥)
-      → Step b p hs (point e 0) hs (entering b p.block e [])
+      → Step b p hs (point e 0) hs (along_edge b p.block e [])
   raises : (p : Point) (h : Handler) (hs : List Handler) (x : Set) (m : Mode) → set_at b p ≡ Some (x, m) → IsTrue (may_raise m x.op)
-      → Step b p (h ∷ hs) (point h.landing 0) hs (entering b p.block h.landing [])
+      → Step b p (h ∷ hs) (point h.landing 0) hs (along_edge b p.block h.landing [])
 
 -- A way from the start to a point: the variables that it set, and the handlers that are open, from the inside out.
 pub data Way (b : Body) : Point → List ℕ → List Handler → Type 0 where

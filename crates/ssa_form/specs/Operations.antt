@@ -22,7 +22,7 @@ use Rattle.step_machine.specs.Frames.{MatchContext, moved, rest_of}
 use Rattle.ssa_form.specs.Ssa as Ssa
 use Rattle.ssa_form.specs.Ssa.{Arg, var, lit, Op}
 use Rattle.bif_table.specs.TermTests.{compare_holds}
-use Rattle.ssa_form.specs.Checks.{holds, has_keys}
+use Rattle.ssa_form.specs.Checks.{check_holds, has_keys}
 use Rattle.ssa_form.specs.Storage.{Held, unset, term, context, position, marker, Leaving, calls, ends_body, always_raises, Storage, Frame, After, next, choose, raise, finish, bad, Mode, plain, tail, jump, tests, Around, in_window, go_on, when, if_some, outside, inside, kept}
 use Rattle.ssa_form.specs.Values.{terms_of, handed, never_returns, puts_of, parts_of, is_tail}
 
@@ -262,7 +262,7 @@ module _ {S : Type 0} (o : Storage S) (around : Around) (here : Here) where
   on_terms (Ssa.element n) mode dst vs f s = element_does n dst vs f s
   on_terms Ssa.hd mode dst vs f s = cell_does true dst vs f s
   on_terms Ssa.tl mode dst vs f s = cell_does false dst vs f s
-  on_terms (Ssa.check c) mode dst vs f s = if_some (holds c vs) λ b. asked mode b f s
+  on_terms (Ssa.check c) mode dst vs f s = if_some (check_holds c vs) λ b. asked mode b f s
   on_terms (Ssa.make_fun n) mode dst vs f s = collected f λ g. fun_made n dst vs g s
   on_terms Ssa.call_fun mode dst vs f s = fun_does dst vs f s
   on_terms Ssa.call_remote mode dst vs f s = remote_does mode dst vs f s

@@ -9,7 +9,7 @@ use Rattle.step_machine.specs.EntryBound.{Lowers}
 use Rattle.step_machine.specs.Frames.{MatchContext}
 use Rattle.ssa_form.specs.Ssa.{Body}
 use Rattle.ssa_form.specs.Storage.{Held, Storage, Around, Frame, Ended, done, unfinished}
-use Rattle.ssa_form.specs.SsaRun.{Raised, blocks, body_run, in_vars, params_hold, ssa_run, Gives}
+use Rattle.ssa_form.specs.SsaRun.{Raised, blocks, body_run, in_vars, params_hold, ssa_run, SsaGives}
 use Rattle.ssa_form.specs.PlacedRun.{Placed, placed_run}
 use Rattle.ssa_form.specs.FramedRun.{Framed, framed_run}
 use Rattle.ssa_form.specs.WellFormed.{CycleRule, WellFormed}
@@ -25,7 +25,7 @@ MoreBlocksChangeNothing S =
 abbrev pub GivesOneResult : Type 0
 GivesOneResult =
     (around : Around) (here : Here) (b : Body) (vs : Values) (s : State) (r q : State × Outcome Term)
-    → Gives around here b vs s r → Gives around here b vs s q → r ≡ q
+    → SsaGives around here b vs s r → SsaGives around here b vs s q → r ≡ q
 
 -- A run that is allowed ever more blocks: with some number of them it is over, or broke a rule.
 pub record IsOver (run : ℕ → Ended) : Type 0 where

@@ -143,12 +143,12 @@ names_handler landing = true
 names_handler catch_end = true
 names_handler _ = false
 
-abbrev pub is_there : Option ℕ → Bool
-is_there None = false
-is_there (Some v) = true
+abbrev pub has_var : Option ℕ → Bool
+has_var None = false
+has_var (Some v) = true
 
 abbrev pub in_form : Mode → Set → Bool
-in_form mode x = takes_count x.op (length x.args) && is_taken (taking_of x.op) mode && (not (needs_dst x.op) || is_there x.dst)
+in_form mode x = takes_count x.op (length x.args) && is_taken (taking_of x.op) mode && (not (needs_dst x.op) || has_var x.dst)
 
 -- the listed functions that no argument makes raise
 abbrev pub never_raises : Bif → Bool

@@ -26,13 +26,13 @@ abbrev pub nodes_of : Body → ℕ → List NodeId
 nodes_of b n = nodes_in (chain_of b n)
 
 -- the set that a node holds
-abbrev pub set_at : Body → ℕ → Option Set
-set_at b n = slice_get b.chains.sets n
+abbrev pub set_of_node : Body → ℕ → Option Set
+set_of_node b n = slice_get b.chains.sets n
 
 -- every block has its chain, and every node of a chain its set
 pub record IsWhole (b : Body) : Type 0 where
   pub chains : (k : ℕ) → get b.blocks k ≢ None → chain_of b k ≢ None
-  pub sets : (k : ℕ) (n : NodeId) → Contains (nodes_of b k) n → set_at b n.0 ≢ None
+  pub sets : (k : ℕ) (n : NodeId) → Contains (nodes_of b k) n → set_of_node b n.0 ≢ None
 
 abbrev pub first_of : List NodeId → Option NodeId
 first_of [] = None
@@ -43,9 +43,9 @@ next_after n [] = None
 next_after n (m ∷ ms) = if eqb m.0 n then first_of ms else next_after n ms
 
 -- nodes for these sets, from number n on
-abbrev pub numbered : ℕ → List Set → List NodeId
-numbered n [] = []
-numbered n (x ∷ xs) = record { 0 = n } ∷ numbered (n + 1) xs
+abbrev pub nodes_from : ℕ → List Set → List NodeId
+nodes_from n [] = []
+nodes_from n (x ∷ xs) = record { 0 = n } ∷ nodes_from (n + 1) xs
 
 abbrev pub block_of : List Phi → ℕ → Last → Block
 block_of ps n l = record { phis = ps; chain = record { 0 = n }; last = l }

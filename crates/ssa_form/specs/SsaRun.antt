@@ -266,6 +266,6 @@ unfolding blocks
 ssa_run around here b k hs cs s = body_run in_vars around here b k (record { values = params_hold b.params hs; handlers = [] }) cs s
 
 -- the body ends so, given these terms
-pub record Gives (around : Around) (here : Here) (b : Body) (vs : Values) (s : State) (r : State × Outcome Term) : Type 0 where
+pub record SsaGives (around : Around) (here : Here) (b : Body) (vs : Values) (s : State) (r : State × Outcome Term) : Type 0 where
   pub within : ℕ
   pub ends : ssa_run around here b within (all_terms vs) [] s ≡ done r.0 r.1

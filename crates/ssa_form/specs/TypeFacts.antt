@@ -138,20 +138,20 @@ same_known (Some t) (Some u) = if same_term t u then Some t else None
 same_known _ _ = None
 
 -- by the first where the second speaks of no such value, and the other way round
-abbrev pub joined : {A : Type 0} → Bool → Bool → Option A → Option A → Option A → Option A
-joined true true a b c = c
-joined true false a b c = a
-joined false true a b c = b
-joined false false a b c = None
+abbrev pub joined_part : {A : Type 0} → Bool → Bool → Option A → Option A → Option A → Option A
+joined_part true true a b c = c
+joined_part true false a b c = a
+joined_part false true a b c = b
+joined_part false false a b c = None
 
 unfoldable pub join : Fact → Fact → Fact
 unfolding same_known
 join f g = record {
   kinds = bit_or f.kinds g.kinds;
-  low = joined (has_kind 0 f.kinds) (has_kind 0 g.kinds) f.low g.low (lesser f.low g.low);
-  high = joined (has_kind 0 f.kinds) (has_kind 0 g.kinds) f.high g.high (greater f.high g.high);
-  size = joined (has_kind 6 f.kinds) (has_kind 6 g.kinds) f.size g.size (same_size f.size g.size);
-  known = joined (not (eqb f.kinds 0)) (not (eqb g.kinds 0)) f.known g.known (same_known f.known g.known);
+  low = joined_part (has_kind 0 f.kinds) (has_kind 0 g.kinds) f.low g.low (lesser f.low g.low);
+  high = joined_part (has_kind 0 f.kinds) (has_kind 0 g.kinds) f.high g.high (greater f.high g.high);
+  size = joined_part (has_kind 6 f.kinds) (has_kind 6 g.kinds) f.size g.size (same_size f.size g.size);
+  known = joined_part (not (eqb f.kinds 0)) (not (eqb g.kinds 0)) f.known g.known (same_known f.known g.known);
 }
 
 unfoldable pub join_all : List Fact → Fact

@@ -20,7 +20,7 @@ use Rattle.ssa_form.specs.declared.block.Last.{Last}
 use Rattle.ssa_form.specs.declared.block.Last.TheVariants as L
 use Rattle.ssa_form.specs.declared.block.Block.{Block}
 use Rattle.ssa_form.specs.declared.body.Body.{Body}
-use Rattle.ssa_form.specs.SetOrder.{nodes_in, chain_in, set_at}
+use Rattle.ssa_form.specs.SetOrder.{nodes_in, chain_in, set_of_node}
 use Rattle.ssa_form.specs.Ssa as Plain
 
 abbrev pub arg_view : Code.Arg → Plain.Arg
@@ -110,7 +110,7 @@ Acts = ℕ → List Plain.FrameAction
 
 abbrev pub chain_view : Body → Acts → List NodeId → List Plain.Set
 chain_view b acts [] = []
-chain_view b acts (n ∷ ns) = with_set (acts n.0) (set_at b n.0) (chain_view b acts ns)
+chain_view b acts (n ∷ ns) = with_set (acts n.0) (set_of_node b n.0) (chain_view b acts ns)
 
 -- last: the frame actions before a block's last
 abbrev pub block_view : Body → Acts → (ℕ → List Plain.FrameAction) → ℕ → Block → Plain.Block

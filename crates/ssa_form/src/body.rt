@@ -1,7 +1,7 @@
 // The body of one function, and how its sets are read.
 ghost use Rattle.std.specs.Prelude.{◌≡◌, ◌≢◌, ◌<◌, [], ◌∷◌, ◌++◌, length, OnOk, OnErr, IfOk, IfSome, Some, None, Contains, slice_get};
 ghost use Rattle.std.specs.Option.{option_map};
-ghost use Rattle.ssa_form.specs.SetOrder.{nodes_of, set_at, first_of, next_after, chain_of};
+ghost use Rattle.ssa_form.specs.SetOrder.{nodes_of, set_of_node, first_of, next_after, chain_of};
 
 use crate::block::Block;
 use crate::op::Set;
@@ -114,8 +114,8 @@ impl Body {
 
     /// A set.
     pub fn set(&self, n: NodeId) -> &Set
-        requires { set_at self.now n.0 ≢ None }
-        ensures { Some result.now ≡ set_at self.now n.0 }
+        requires { set_of_node self.now n.0 ≢ None }
+        ensures { Some result.now ≡ set_of_node self.now n.0 }
     {
         &self.chains.sets.as_slice()[n.0 as usize]
     }
