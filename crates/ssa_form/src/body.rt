@@ -10,8 +10,8 @@ use erl_term::Term;
 use slab::Slab;
 use std::alloc::Global;
 
-/// What is known of a variable's value: its kinds as a set of bits, in the order of terms; bounds of an integer; the size
-/// of a tuple; the value itself.
+/// What is known of a variable's value: its kinds as a set of bits, in the order of terms; bounds of an integer; the
+/// size of a tuple; the value itself.
 #[derive(Debug, Drop)]
 pub struct Fact {
     pub kinds: u16,
@@ -65,8 +65,8 @@ pub struct SetLists {
     pub(crate) chains: List<NodeIds>,
 }
 
-/// The body of a function. `facts`, `contexts`, `marks`, `regions` and `numbers` are filled by the stages; `contexts` holds
-/// the numbers, from 0, of the parameters at which a match context may come.
+/// The body of a function. `facts`, `contexts`, `marks`, `regions` and `numbers` are filled by the stages; `contexts`
+/// holds the numbers, from 0, of the parameters at which a match context may come.
 #[derive(Drop)]
 pub struct Body {
     pub key: FunKey,
