@@ -10,7 +10,7 @@ use Rattle.core_form.specs.Core.{Module}
 use Rattle.core_meaning.specs.CoreRun.{Known, deep, start, known, known_export, evaluated, ended}
 use Rattle.core_meaning.specs.RunLaws.{Begins, SameWithMore, HappensFirst, EntersFirst, EntersWithin, SpentAtBound}
 use Rattle.core_meaning.proofs.EveryRule.{site_ok}
-use Rattle.core_meaning.proofs.Kept.{Grown, deep_kept, entries_within, entries_spent}
+use Rattle.core_meaning.proofs.Kept.{Grown, deep_kept, entries_within, entries_spent, entries_are_spent}
 use Rattle.core_meaning.proofs.Longer.{up, Prolonged, Longer, prolonging, entry_longer}
 
 -- deeper, and with more entries
@@ -122,3 +122,7 @@ enters_within m f vs x n = omega (arith, entries_within (known m x.own) n (known
 pub spent_at_bound : SpentAtBound
 unfolding evaluated
 spent_at_bound m f vs x n e = entries-reverse (deep (known m x.own) (suc n) (known_export m f) vs (start x n)).0.notes ∙ entries_spent (known m x.own) n (known_export m f) vs x e
+
+pub ruleset staying_within = (entries_are_spent, enters_within, spent_at_bound)
+
+pub ruleset larger_prolongs = (same_with_more, happens_first, enters_first)

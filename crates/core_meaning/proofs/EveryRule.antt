@@ -22,11 +22,11 @@ use Rattle.core_meaning.specs.SegmentShape.{shape_of}
 use Rattle.core_meaning.specs.SegmentMatch.{if_there}
 use Rattle.core_meaning.specs.PatternMatch.{match_all}
 use Rattle.core_meaning.specs.MarkedReceive.{marked_with}
-use Rattle.core_meaning.specs.Calls.{Activation, callees}
+use Rattle.core_meaning.specs.Calls.{Invocation, own_functions}
 use Rattle.core_meaning.specs.EvaluationContext.{EvaluationContext, inner, past, captured_terms, value_of}
 use Rattle.core_meaning.specs.ClauseChoice.{case_end, case_tried, taken_if, guarded, and_cuts, none_tried}
 use Rattle.core_meaning.specs.MarkingCalls.{awaited}
-use Rattle.core_meaning.specs.Evaluation.{build_each, name_of, if_named, apply_name, eval, eval_all, eval_parts, eval_segments, choose}
+use Rattle.core_meaning.specs.Evaluation.{build_each, operator_name, if_named, apply_name, eval, eval_all, eval_parts, eval_segments, choose}
 use Rattle.core_meaning.specs.CoreRun.{run_site}
 use Rattle.core_meaning.proofs.Rules.{Quiet, Logic, noting_quiet, answered_quiet, one_ok, single_ok, if_ok, call_out_ok, send_ok, answers_ok, put_all_ok, exit_ok, primitive_ok, badarg_ok, cutting_ok, beginning_ok, marking_ok}
 
@@ -120,17 +120,17 @@ no_clause_ok L = record { cuts = refl; body = tt }
 
 -- Expressions, evaluated with two ways to enter a function that are related once the entry is noted.
 
-abbrev pub entered_with : Activation → (ℕ → Values → M Term) → Activation
+abbrev pub entered_with : Invocation → (ℕ → Values → M Term) → Invocation
 entered_with here f = record here { enter = f }
 
-module _ (L : Logic) (here : Activation) (f : ℕ → Values → M Term) (enters : (e : Entry) (n : ℕ) (vs : Values) → L.Rel (counted e (here.enter n vs)) (counted e (f n vs))) where
-  abbrev there : Activation
+module _ (L : Logic) (here : Invocation) (f : ℕ → Values → M Term) (enters : (e : Entry) (n : ℕ) (vs : Values) → L.Rel (counted e (here.enter n vs)) (counted e (f n vs))) where
+  abbrev there : Invocation
   there = entered_with here f
 
   entering_ok : (n : ℕ) (tail : Bool) (vs : Values) → L.Rel (entering here.enter n tail vs) (entering f n tail vs)
   entering_ok n tail vs = L.bound (counted _ (here.enter n vs)) (counted _ (f n vs)) _ _ (enters (record { site = n; tail = tail }) n vs) (λ t. single_ok L t)
 
-  apply_ok : (t : Term) (vs : Values) → L.Rel (apply_term (callees here) t vs) (apply_term (callees there) t vs)
+  apply_ok : (t : Term) (vs : Values) → L.Rel (apply_term (own_functions here) t vs) (apply_term (own_functions there) t vs)
   apply_ok (T.fun m s a cs) vs = if_ok L _ _ _ _ _ (L.failed _ _) (if_ok L _ _ _ _ _ (entering_ok _ _ _) (call_out_ok L _ _ _))
   apply_ok (T.extern m g a) vs = if_ok L _ _ _ _ _ (L.failed _ _) (call_out_ok L _ _ _)
   apply_ok _ vs = L.failed _ _
@@ -193,7 +193,7 @@ module _ (L : Logic) (here : Activation) (f : ℕ → Values → M Term) (enters
     eval_ok (letrec p ds b) c = eval_ok b _
     eval_ok (case p e cs) c = L.bound _ _ _ _ (eval_ok e _) (λ vs. tried_ok e c vs _ _ (choose_ok cs vs _))
     eval_ok (apply p e es) c =
-        named_ok (name_of e) (expr_count es) _ _ _ _ (λ k. L.bound _ _ _ _ (all_ok es (inner c)) (λ vs. name_ok c k vs))
+        named_ok (operator_name e) (expr_count es) _ _ _ _ (λ k. L.bound _ _ _ _ (all_ok es (inner c)) (λ vs. name_ok c k vs))
         (one_ok L _ _ _ _ (eval_ok e (inner c)) (λ t. L.bound _ _ _ _ (all_ok es (past (sites_in e) (inner c))) (λ vs. apply_ok t vs)))
     eval_ok (call p m g es) c =
         one_ok L _ _ _ _ (eval_ok m (inner c)) (λ t. one_ok L _ _ _ _ (eval_ok g (past (sites_in m) (inner c))) (λ u. L.bound _ _ _ _ (all_ok es (past (sites_in m + sites_in g) (inner c))) (λ vs. call_ok t u vs)))

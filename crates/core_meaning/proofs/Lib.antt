@@ -8,9 +8,9 @@ mod Demands
 mod Binaries
 mod Rules
 mod EveryRule
-pub mod Kept
+mod Kept
 mod Longer
-pub mod Depth
-pub mod Bounds
-pub mod Matching
-pub mod Selecting
+mod Depth
+mod Bounds
+mod Matching
+mod Selecting

@@ -17,7 +17,7 @@ use Rattle.world_model.specs.Receive.{cutting}
 use Rattle.core_meaning.specs.Calls.{primitive}
 use Rattle.core_meaning.specs.ClauseChoice.{blank}
 use Rattle.core_meaning.specs.MarkingCalls.{marking, last_mark, beginning}
-use Rattle.core_meaning.specs.Evaluation.{or_badarg}
+use Rattle.core_meaning.specs.Evaluation.{bits_or_badarg}
 
 abbrev pub with_left : ℕ → State → State
 with_left k s = record s { left = k }
@@ -126,7 +126,7 @@ module _ (L : Logic) where
   primitive_ok n (t ∷ []) = if_ok _ _ _ _ _ (L.failed _ _) (L.bound _ _ _ _ (ask_ok _) (λ r. single_ok _))
   primitive_ok n (t ∷ u ∷ us) = again_ok t u
 
-  pub badarg_ok : (o : Option (List Bool)) → L.Rel (or_badarg o) (or_badarg o)
+  pub badarg_ok : (o : Option (List Bool)) → L.Rel (bits_or_badarg o) (bits_or_badarg o)
   badarg_ok None = L.failed _ _
   badarg_ok (Some bs) = single_ok _
 

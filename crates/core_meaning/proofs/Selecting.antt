@@ -11,7 +11,7 @@ use Rattle.core_form.specs.Captures.{sites_in}
 use Rattle.core_form.specs.Scope.{bound_all}
 use Rattle.core_meaning.specs.SegmentMatch.{if_there}
 use Rattle.core_meaning.specs.PatternMatch.{match_all}
-use Rattle.core_meaning.specs.Calls.{Activation}
+use Rattle.core_meaning.specs.Calls.{Invocation}
 use Rattle.core_meaning.specs.EvaluationContext.{EvaluationContext, inner, past, bind, value_of}
 use Rattle.core_meaning.specs.ClauseChoice.{blank, is_true, taken_if, guarded}
 use Rattle.core_meaning.specs.Evaluation.{eval, choose}
@@ -24,7 +24,7 @@ some_one {A} {x} {y} e =
     ap take_out e
 
 -- what patterns bind, and whether the guard then holds
-module _ (here : Activation) (p : Place) (qs : Patterns) (g e : Expr) (cs : Clauses) (vs : Values) (c : EvaluationContext) where
+module _ (here : Invocation) (p : Place) (qs : Patterns) (g e : Expr) (cs : Clauses) (vs : Values) (c : EvaluationContext) where
   abbrev body_with : Values → M Values
   body_with ws = eval here e (bind (bound_all qs) ws (past (sites_in g) c))
 
@@ -63,14 +63,14 @@ module _ (here : Activation) (p : Place) (qs : Patterns) (g e : Expr) (cs : Clau
           absurd cc
   by_match (Some ws) h body k q = by_guard ws (is_true (guard_of ws).1) refl h body k q
 
-pub chosen_is_first : (here : Activation) (cs : Clauses) (vs : Values) (c : EvaluationContext) (body : M Values) → (choose here cs vs c).body ≡ Some body → Chosen here cs vs c body
+pub chosen_is_first : (here : Invocation) (cs : Clauses) (vs : Values) (c : EvaluationContext) (body : M Values) → (choose here cs vs c).body ≡ Some body → Chosen here cs vs c body
 unfolding eval
 chosen_is_first here no_clause vs c body e = absurd cc
 chosen_is_first here (and_clause (clause p qs g e) cs) vs c body q =
     by_match here p qs g e cs vs c (match_all (value_of c) qs (terms vs)) refl body (λ m. chosen_is_first here cs vs (past (sites_in g + sites_in e) c) m) q
 
 -- the other way: the first clause that accepts is chosen
-module _ (here : Activation) where
+module _ (here : Invocation) where
   unbound : (p : Place) (qs : Patterns) (g e : Expr) (cs : Clauses) (vs : Values) (c : EvaluationContext) → ((ws : Values) → Accepts here qs g vs c ws → ⊥)
       → (o : Option Values) → match_all (value_of c) qs (terms vs) ≡ o → (tried here p qs g e cs vs c o).body ≡ (rest here p qs g e cs vs c).body
   unbound p qs g e cs vs c never None h = refl
@@ -88,16 +88,16 @@ module _ (here : Activation) where
   first_is_chosen (later {p} {qs} {g} {e} {cs} {vs} {c} {body} never h) =
       unbound p qs g e cs vs c never (match_all (value_of c) qs (terms vs)) refl ∙ first_is_chosen h
 
-pub chosen_exactly : (here : Activation) (cs : Clauses) (vs : Values) (c : EvaluationContext) (body : M Values) → ((choose here cs vs c).body ≡ Some body) ↔ Chosen here cs vs c body
+pub chosen_exactly : (here : Invocation) (cs : Clauses) (vs : Values) (c : EvaluationContext) (body : M Values) → ((choose here cs vs c).body ≡ Some body) ↔ Chosen here cs vs c body
 chosen_exactly here cs vs c body = (λ e. chosen_is_first here cs vs c body e, λ h. first_is_chosen here h)
 
 -- Receives.
 
-none_by : (here : Activation) (cs : Clauses) (vs : Values) (c : EvaluationContext) (o : Option (M Values)) → (choose here cs vs c).body ≡ o → NoneAccepts here cs vs c → o ≡ None
+none_by : (here : Invocation) (cs : Clauses) (vs : Values) (c : EvaluationContext) (o : Option (M Values)) → (choose here cs vs c).body ≡ o → NoneAccepts here cs vs c → o ≡ None
 none_by here cs vs c None e h = refl
 none_by here cs vs c (Some body) e h = absurd (h body (chosen_is_first here cs vs c body e))
 
-pub none_chosen : (here : Activation) (cs : Clauses) (vs : Values) (c : EvaluationContext) → NoneAccepts here cs vs c → (choose here cs vs c).body ≡ None
+pub none_chosen : (here : Invocation) (cs : Clauses) (vs : Values) (c : EvaluationContext) → NoneAccepts here cs vs c → (choose here cs vs c).body ≡ None
 none_chosen here cs vs c h = none_by here cs vs c (choose here cs vs c).body refl h
 
 -- a receive in general takes the first message that is accepted, and so does this one

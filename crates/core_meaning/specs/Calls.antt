@@ -15,7 +15,7 @@ use Rattle.core_meaning.specs.PassedOnTail.{Param}
 
 -- one activation of a function: what is fixed while its body is evaluated, and how a function is entered
 -- reached: the parameters that passed-on variables reach; apart: the bindings of this function's own ones
-pub record Activation : Type 0 where
+pub record Invocation : Type 0 where
   pub name : Name
   pub own : Term
   pub sites : List Site
@@ -29,8 +29,8 @@ parameters_of None = None
 parameters_of (Some x) = Some (length x.params + length x.captures)
 
 -- the module as calls of funs see it; an entry by a fun is never in tail position
-abbrev pub callees : Activation → Callees
-callees here = record {
+abbrev pub own_functions : Invocation → Callees
+own_functions here = record {
   name = here.name;
   parameters = λ n. parameters_of (slice_get here.sites n);
   enter = λ n vs. entering here.enter n false vs;

@@ -11,7 +11,7 @@ use Rattle.core_form.specs.Core.{Expr, var, Exprs, no_expr, and_expr}
 use Rattle.core_form.specs.Scope.{Scope, binding}
 use Rattle.core_meaning.specs.MarkedReceive.{is_among}
 use Rattle.core_meaning.specs.PassedOnTail.{elements}
-use Rattle.core_meaning.specs.Calls.{Activation}
+use Rattle.core_meaning.specs.Calls.{Invocation}
 use Rattle.core_meaning.specs.EvaluationContext.{EvaluationContext}
 
 -- a guard runs on a state of its own, since it asks the world for nothing
@@ -42,6 +42,7 @@ guarded r body rest = and_cuts (sub_binaries r.0.notes) (taken_if (is_true r.1) 
 
 -- A case without a clause.
 
+-- the reason that it raises: one value, or a tuple of all
 abbrev pub clause_reason : Values → Term
 clause_reason (t ∷ []) = tagged (codes "case_clause") t
 clause_reason vs = tagged (codes "case_clause") (T.tuple (terms vs))
@@ -54,10 +55,10 @@ count_among (and_expr (var p x) es) g ns =
 count_among (and_expr e es) g ns = count_among es g ns
 
 -- a failing case makes the bits of those parameters that came as a rest, since its reason holds them
-abbrev pub case_end : Activation → Expr → EvaluationContext → Values → Option (M Values) → M Values
+abbrev pub case_end : Invocation → Expr → EvaluationContext → Values → Option (M Values) → M Values
 case_end here e c vs None = cutting (count_among (elements e) c.scope here.apart) (fail T.error (clause_reason vs))
 case_end here e c vs (Some m) = m
 
 -- what comes of trying the clauses of a case
-abbrev pub case_tried : Activation → Expr → EvaluationContext → Values → Tried Values → M Values
+abbrev pub case_tried : Invocation → Expr → EvaluationContext → Values → Tried Values → M Values
 case_tried here e c vs t = cutting t.cuts (case_end here e c vs t.body)

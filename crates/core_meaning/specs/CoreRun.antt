@@ -13,12 +13,12 @@ use Rattle.core_form.specs.Scope.{Use, function_of, numbers_of}
 use Rattle.core_form.specs.Sites.{Site, inside, param_numbers, module_scope, module_sites}
 use Rattle.core_meaning.specs.PassedOnTail.{Param, all_reached}
 use Rattle.core_meaning.specs.ReceiveCost.{examined}
-use Rattle.core_meaning.specs.Calls.{Activation}
+use Rattle.core_meaning.specs.Calls.{Invocation}
 use Rattle.core_meaning.specs.EvaluationContext.{holding}
 use Rattle.core_meaning.specs.Evaluation.{eval}
 
 -- a function's body, with its arguments and captured terms
-unfoldable pub run_site : Activation → Option Site → Values → M Term
+unfoldable pub run_site : Invocation → Option Site → Values → M Term
 unfolding eval
 run_site here None vs = fail T.error (word (codes "undef"))
 run_site here (Some x) vs = one (eval here x.body (record {
@@ -64,8 +64,8 @@ known m own = known_by m.name own (module_sites m)
     known_by : Name → Term → List Site → Known
     known_by x t ss = record { name = x; own = t; sites = ss; reached = all_reached ss ss }
 
--- what a run gives: what happened, the entries after the first, the messages that receives looked at, the marking calls,
--- what it costs, and how it ends
+-- what a run gives: what happened, the entries after the first, the messages that receives looked at, the marking
+-- calls, what it costs, and how it ends
 pub record Result : Type 0 where
   pub happenings : List Happening
   pub entries : List Entry
@@ -75,6 +75,7 @@ pub record Result : Type 0 where
   pub subs : ℕ
   pub end : Outcome Term
 
+-- from the notes, the earliest first
 abbrev pub result_of : List Bool → List Note → Outcome Term → Result
 result_of choices ns end = record {
   happenings = happenings ns;
@@ -100,6 +101,7 @@ start x n = record {
   notes = [];
 }
 
+-- the site of a function that a scope has
 abbrev pub site_named : Option (ℕ × List Use) → ℕ
 site_named None = 0
 site_named (Some f) = f.0

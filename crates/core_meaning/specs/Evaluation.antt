@@ -21,32 +21,33 @@ use Rattle.core_meaning.specs.SegmentShape.{shape_of}
 use Rattle.core_meaning.specs.SegmentMatch.{if_there}
 use Rattle.core_meaning.specs.PatternMatch.{match_all}
 use Rattle.core_meaning.specs.MarkedReceive.{is_marking, marked_with}
+use Rattle.core_meaning.specs.PassedOnTail.{ClauseUse}
 use Rattle.core_meaning.specs.SubBinaries.{is_made, all_cuts}
-use Rattle.core_meaning.specs.Calls.{Activation, callees, primitive}
+use Rattle.core_meaning.specs.Calls.{Invocation, own_functions, primitive}
 use Rattle.core_meaning.specs.EvaluationContext.{EvaluationContext, inner, past, captured_terms, bind, value_of}
 use Rattle.core_meaning.specs.ClauseChoice.{blank, none_tried, and_cuts, guarded, case_tried}
 use Rattle.core_meaning.specs.MarkingCalls.{marking, awaited, beginning}
 
 -- a segment's shape, value and size
-pub record Part : Type 0 where
+pub record BuiltSegment : Type 0 where
   pub shape : Shape
   pub value : Term
   pub size : Term
 
 -- the bits of all segments, one after the other
-abbrev pub build_each : List Part → Option (List Bool)
+abbrev pub build_each : List BuiltSegment → Option (List Bool)
 build_each [] = Some []
 build_each (x ∷ xs) = joined (built x.shape x.value x.size) (build_each xs)
 
 -- whatever cannot be built raises badarg
-abbrev pub or_badarg : Option (List Bool) → M Values
-or_badarg None = fail T.error badarg
-or_badarg (Some bs) = single (T.bits bs)
+abbrev pub bits_or_badarg : Option (List Bool) → M Values
+bits_or_badarg None = fail T.error badarg
+bits_or_badarg (Some bs) = single (T.bits bs)
 
 -- the function that an operator names
-abbrev pub name_of : Expr → Option FunKey
-name_of (fun_name p f) = Some f
-name_of _ = None
+abbrev pub operator_name : Expr → Option FunKey
+operator_name (fun_name p f) = Some f
+operator_name _ = None
 
 -- an operator that names a function of this arity is called by name, any other one by its value
 abbrev pub if_named : {A : Type 0} → Option FunKey → ℕ → (FunKey → A) → A → A
@@ -54,18 +55,18 @@ if_named None n f a = a
 if_named (Some k) n f a = if eqb k.arity n then f k else a
 
 -- a function's name as a value shows its site and what it captured
-abbrev pub fun_value : Activation → EvaluationContext → Option (ℕ × List Use) → ℕ → Values
+abbrev pub fun_value : Invocation → EvaluationContext → Option (ℕ × List Use) → ℕ → Values
 fun_value here c None n = []
 fun_value here c (Some f) n = T.fun here.name f.0 n (terms (captured_terms c.env f.1)) ∷ []
 
 -- a call by name hands the captured terms on behind the arguments
-abbrev pub apply_name : Activation → EvaluationContext → FunKey → Values → M Values
+abbrev pub apply_name : Invocation → EvaluationContext → FunKey → Values → M Values
 apply_name here c f vs = elim (function_of c.scope f) [
   | None ↦ give []
   | Some g ↦ entering here.enter g.0 c.tail (vs ++ captured_terms c.env g.1)
 ]
 
-module _ (here : Activation) where
+module _ (here : Invocation) where
   unfoldable mutual
     unfolding call_terms put_all same_term
 
@@ -84,8 +85,9 @@ module _ (here : Activation) where
         eval_parts ps (inner c) >>= λ qs.
         one (eval e (past (sites_in_parts ps) (inner c))) λ t.
         put_all qs t
-    eval (binary p ss) c = eval_segments ss (inner c) >>= λ xs. or_badarg (build_each xs)
-    eval (fun p xs e) c = single (T.fun here.name c.next (length xs) (terms (captured_terms c.env (captures_of (fun p xs e) c.scope))))
+    eval (binary p ss) c = eval_segments ss (inner c) >>= λ xs. bits_or_badarg (build_each xs)
+    eval (fun p xs e) c =
+        single (T.fun here.name c.next (length xs) (terms (captured_terms c.env (captures_of (fun p xs e) c.scope))))
     eval (let_in p xs a b) c =
         marking (is_marking a xs b c.scope c.lets) (eval a (inner c)) >>= λ vs.
         eval b (record (bind (names_of xs) vs (past (sites_in a) c)) { lets = with_let a xs c.scope c.lets })
@@ -95,9 +97,11 @@ module _ (here : Activation) where
         eval e (inner c) >>= λ vs.
         case_tried here e c vs (choose cs vs (past (sites_in e) c))
     eval (apply p e es) c =
-        if_named (name_of e) (expr_count es)
+        if_named (operator_name e) (expr_count es)
         (λ f. eval_all es (inner c) >>= λ vs. apply_name here c f vs)
-        (one (eval e (inner c)) λ t. eval_all es (past (sites_in e) (inner c)) >>= λ vs. apply_term (callees here) t vs)
+        (one (eval e (inner c)) λ t.
+        eval_all es (past (sites_in e) (inner c)) >>= λ vs.
+        apply_term (own_functions here) t vs)
     eval (call p m f es) c =
         one (eval m (inner c)) λ t.
         one (eval f (past (sites_in m) (inner c))) λ u.
@@ -130,7 +134,7 @@ module _ (here : Activation) where
         eval_parts ps (past (sites_in k + sites_in v) c) >>= λ qs.
         give (record { key = t; value = u; exact = x } ∷ qs)
 
-    pub eval_segments : Segments → EvaluationContext → M (List Part)
+    pub eval_segments : Segments → EvaluationContext → M (List BuiltSegment)
     eval_segments no_segment c = give []
     eval_segments (and_segment (segment p v s u k f) ss) c =
         one (eval v c) λ t.
@@ -142,9 +146,17 @@ module _ (here : Activation) where
     pub choose : Clauses → Values → EvaluationContext → Tried Values
     choose no_clause vs c = none_tried
     choose (and_clause (clause p qs g e) cs) vs c =
-        let d = with_names c.scope (bound_all qs) in
+        let uses : ClauseUse = record {
+          guard = g;
+          body = e;
+          scope = with_names c.scope (bound_all qs);
+          site = c.next + sites_in g;
+        } in
         let rest = choose cs vs (past (sites_in g + sites_in e) c) in
-        and_cuts (all_cuts (is_made c.tail here.reached g e d (c.next + sites_in g)) (value_of c) qs (terms vs))
+        and_cuts (all_cuts (is_made c.tail here.reached uses) (value_of c) qs (terms vs))
         (if_there (match_all (value_of c) qs (terms vs))
-        (λ ws. guarded (eval g (inner (bind (bound_all qs) ws c)) blank) (eval e (bind (bound_all qs) ws (past (sites_in g) c))) rest)
+        (λ ws.
+        guarded (eval g (inner (bind (bound_all qs) ws c)) blank)
+        (eval e (bind (bound_all qs) ws (past (sites_in g) c)))
+        rest)
         rest)

@@ -30,5 +30,6 @@ abbrev mutual
 abbrev pub IsFresh : Marked → Type 0
 IsFresh x = (n : ℕ) × (x.reference ≡ T.reference n) × All (λ w. IsFalse (occurs n w.term)) x.before
 
+-- so does each marking call of a run, with any bound
 abbrev pub Fresh : Module → FunKey → List Term → Script → Type 0
 Fresh m f vs x = (n : ℕ) → All IsFresh (evaluated m f vs x n).marks

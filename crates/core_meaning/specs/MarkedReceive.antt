@@ -1,10 +1,11 @@
 -- Receives that can accept no message but one that holds a new reference (this project's own).
 use Rattle.std.specs.Prelude.{ℕ, List, [], ◌∷◌, length, Bool, true, false, ◌&&◌, ◌||◌, eqb, Option, Some, None, codes}
+use Rattle.erl_base.specs.Lists.{among}
 use Rattle.erl_base.specs.Names.{same_name}
 use Rattle.erl_term.specs.Term as T
 use Rattle.core_form.specs.declared.tree.Binder.{Binder}
 use Rattle.core_form.specs.Core.{Expr, var, let_in, case, call, try, receive, Exprs, no_expr, and_expr, Clauses, no_clause, and_clause, clause, any, known, Patterns, no_pattern, and_pattern}
-use Rattle.core_form.specs.Scope.{Scope, binding, with_names, names_of, numbers_from, bound_all, among}
+use Rattle.core_form.specs.Scope.{Scope, binding, with_names, names_of, numbers_from, bound_all}
 use Rattle.core_form.specs.Walks.{literal_name, calls_erlang, makes_reference, with_let, within}
 
 -- whether a name's binding has this number
@@ -22,6 +23,7 @@ abbrev pub is_variable : ℕ → Expr → Scope → Bool
 is_variable n (var p x) g = number_is (binding g x) n
 is_variable n _ g = false
 
+-- whether an expression is one of these variables
 abbrev pub is_one_of : List ℕ → Expr → Scope → Bool
 is_one_of ns (var p x) g = is_among (binding g x) ns
 is_one_of ns _ g = false
@@ -87,6 +89,7 @@ all_demand r no_clause g = true
 all_demand r (and_clause (clause p qs e b) cs) g =
     demands r (numbers_from (length g) (length (bound_all qs))) e (with_names g (bound_all qs)) && all_demand r cs g
 
+-- whether there is a clause
 abbrev pub some_clause : Clauses → Bool
 some_clause no_clause = false
 some_clause (and_clause (clause p qs g e) cs) = true
@@ -100,6 +103,7 @@ first_demanded (r ∷ rs) cs g = elim (all_demand r cs g) [ true ↦ Some r | fa
 abbrev pub marked_with : Clauses → Scope → List ℕ → Option ℕ
 marked_with cs g ls = elim (some_clause cs) [ true ↦ first_demanded ls cs g | false ↦ None ]
 
+-- a number as a list
 abbrev pub at_most_one : Option ℕ → List ℕ
 at_most_one None = []
 at_most_one (Some n) = n ∷ []

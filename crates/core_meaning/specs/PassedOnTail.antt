@@ -15,9 +15,11 @@ pub record Param : Type 0 where
   pub site : ℕ
   pub index : ℕ
 
+-- whether two parameters are the same
 abbrev pub same_param : Param → Param → Bool
 same_param a b = eqb a.site b.site && eqb a.index b.index
 
+-- whether a parameter is one of these
 abbrev pub is_param_of : List Param → Param → Bool
 is_param_of [] a = false
 is_param_of (b ∷ bs) a = if same_param a b then true else is_param_of bs a
@@ -28,8 +30,10 @@ is_param_of (b ∷ bs) a = if same_param a b then true else is_param_of bs a
 abbrev pub params_at : ℕ → ℕ → Exprs → ℕ → Scope → List Param
 params_at s i no_expr n g = []
 params_at s i (and_expr e es) n g =
-    if is_variable n e g then record { site = s; index = i } ∷ params_at s (suc i) es n g else params_at s (suc i) es n g
+    if is_variable n e g then record { site = s; index = i } ∷ params_at s (suc i) es n g
+    else params_at s (suc i) es n g
 
+-- the parameters of a function that a scope has
 abbrev pub if_site : Option (ℕ × List Use) → (ℕ → List Param) → List Param
 if_site None f = []
 if_site (Some x) f = f x.0
@@ -62,6 +66,7 @@ abbrev pub elements : Expr → Exprs
 elements (values p es) = es
 elements e = and_expr e no_expr
 
+-- the pattern at place j, from 0
 abbrev pub pattern_at : ℕ → Patterns → Option Pattern
 pattern_at j no_pattern = None
 pattern_at zero (and_pattern q qs) = Some q
@@ -84,6 +89,7 @@ abbrev pub only_failing : ℕ → Expr → Expr → Scope → Bool
 only_failing n e b g =
     eqb (length (within (failing_uses n) e g [] ++ within (failing_uses n) b g [])) (uses n e g + uses n b g)
 
+-- the number of a binding; a name without one is no variable of a module that compiles
 abbrev pub number_or_zero : Option ℕ → ℕ
 number_or_zero None = 0
 number_or_zero (Some n) = n
@@ -103,7 +109,8 @@ all_take j (and_clause (clause p qs e b) cs) g =
 -- the places from i on at which a variable stands among a subject's elements
 abbrev pub places_among : ℕ → ℕ → Exprs → Scope → List ℕ
 places_among i n no_expr g = []
-places_among i n (and_expr e es) g = if is_variable n e g then i ∷ places_among (suc i) n es g else places_among (suc i) n es g
+places_among i n (and_expr e es) g =
+    if is_variable n e g then i ∷ places_among (suc i) n es g else places_among (suc i) n es g
 
 -- those of these places at which all clauses do
 abbrev pub takes_at : List ℕ → Clauses → Scope → List ℕ
@@ -115,6 +122,7 @@ abbrev pub taking_cases : ℕ → Expr → Scope → List ℕ → List ℕ
 taking_cases n (case p e cs) g ls = takes_at (places_among 0 n (elements e) g) cs g
 taking_cases n _ g ls = []
 
+-- whether a list has an element
 abbrev pub is_some_list : List ℕ → Bool
 is_some_list [] = false
 is_some_list (n ∷ ns) = true
@@ -158,16 +166,32 @@ keep_taken ss [] = []
 keep_taken ss (a ∷ as') =
     if takes_apart (slice_get ss a.site) a.index then a ∷ keep_taken ss as' else keep_taken ss as'
 
--- the parameters that a variable reaches, where it has one use and stands in a clause in tail position; b is
--- the clause's body, k the number of the first site in it
-abbrev pub reaches : List Site → Name → Expr → Expr → Scope → ℕ → List Param
-reaches ss x e b g k =
-    let n = number_or_zero (binding g x) in
-    if eqb (uses n e g + uses n b g) 1 then keep_taken ss (handed b g k n) else []
+-- what a clause does with the variables that its patterns bind; its scope has these, and its body's sites have numbers
+-- from `site` on
+pub record ClauseUse : Type 0 where
+  pub guard : Expr
+  pub body : Expr
+  pub scope : Scope
+  pub site : ℕ
 
-abbrev pub reaches_each : List Site → List Name → Expr → Expr → Scope → ℕ → List Param
-reaches_each ss [] e b g k = []
-reaches_each ss (x ∷ xs) e b g k = reaches ss x e b g k ++ reaches_each ss xs e b g k
+-- how often it uses a variable
+abbrev pub uses_in : ℕ → ClauseUse → ℕ
+uses_in n c = uses n c.guard c.scope + uses n c.body c.scope
+
+-- the parameters to which calls in tail position hand it
+abbrev pub handed_in : ℕ → ClauseUse → List Param
+handed_in n c = handed c.body c.scope c.site n
+
+-- the parameters that a variable reaches, where it has one use and stands in a clause in tail position
+abbrev pub reaches : List Site → Name → ClauseUse → List Param
+reaches ss x c =
+    let n = number_or_zero (binding c.scope x) in
+    if eqb (uses_in n c) 1 then keep_taken ss (handed_in n c) else []
+
+-- of each of these variables
+abbrev pub reaches_each : List Site → List Name → ClauseUse → List Param
+reaches_each ss [] c = []
+reaches_each ss (x ∷ xs) c = reaches ss x c ++ reaches_each ss xs c
 
 module _ (ss : List Site) where
   abbrev mutual
@@ -186,7 +210,8 @@ module _ (ss : List Site) where
     pub reached_clauses : Clauses → Scope → ℕ → List Param
     reached_clauses no_clause g k = []
     reached_clauses (and_clause (clause p qs e b) cs) g k =
-        reaches_each ss (rests_all qs) e b (with_names g (bound_all qs)) (k + sites_in e)
+        reaches_each ss (rests_all qs)
+        (record { guard = e; body = b; scope = with_names g (bound_all qs); site = k + sites_in e })
         ++ reached b (with_names g (bound_all qs)) (k + sites_in e)
         ++ reached_clauses cs g (k + sites_in e + sites_in b)
 

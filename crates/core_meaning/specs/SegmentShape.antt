@@ -7,6 +7,7 @@ use Rattle.erl_term.specs.Term.{Term}
 use Rattle.erl_term.specs.Segments.{Shape, has_flag, unit_of}
 use Rattle.core_form.specs.Core.{Expr, literal}
 
+-- whether a size is the literal 'all'
 abbrev pub is_all : Expr → Bool
 is_all (literal p (T.atom a)) = same_name a (codes "all")
 is_all _ = false

@@ -1,17 +1,16 @@
 -- How many sub-binaries it may take to try a clause (this project's own).
-use Rattle.std.specs.Prelude.{ℕ, suc, ◌+◌, List, [], ◌∷◌, Bool, true, false, not, ◌&&◌, ◌||◌, eqb, ltb, Option, if◌then◌else◌}
+use Rattle.std.specs.Prelude.{ℕ, suc, ◌+◌, List, [], ◌∷◌, Bool, true, false, not, ◌&&◌, ◌||◌, eqb, ltb, if◌then◌else◌}
 use Rattle.erl_base.specs.Names.{Name, same_name}
 use Rattle.erl_term.specs.Term as T
 use Rattle.erl_term.specs.Term.{Term, Terms, more, Pairs}
 use Rattle.erl_term.specs.TermOrder.{count}
 use Rattle.erl_term.specs.Segments.{Shape}
 use Rattle.core_form.specs.Core.{Expr, var, Pattern, any, alias, list_like, tuple_like, map_like, bits_like, Patterns, no_pattern, and_pattern, KeyPatterns, no_key, and_key, key_pattern, SegPatterns, no_seg, and_seg, seg_pattern}
-use Rattle.core_form.specs.Scope.{Scope, binding}
-use Rattle.core_form.specs.Walks.{uses}
+use Rattle.core_form.specs.Scope.{binding}
 use Rattle.core_meaning.specs.SegmentShape.{shape_of}
 use Rattle.core_meaning.specs.SegmentMatch.{if_there, seg_cuts}
-use Rattle.core_meaning.specs.PatternMatch.{key_value, at_key, segments_in}
-use Rattle.core_meaning.specs.PassedOnTail.{Param, is_param_of, handed, number_or_zero}
+use Rattle.core_meaning.specs.PatternMatch.{Lookup, key_value, at_key, segments_in}
+use Rattle.core_meaning.specs.PassedOnTail.{Param, is_param_of, ClauseUse, uses_in, handed_in, number_or_zero}
 
 -- whether a size is this variable
 abbrev pub names_size : Name → Expr → Bool
@@ -33,14 +32,15 @@ abbrev pub any_reached : List Param → List Param → Bool
 any_reached rs [] = false
 any_reached rs (a ∷ as') = if is_param_of rs a then true else any_reached rs as'
 
--- whether the variable of a binary segment is used and not passed on: in a clause in tail position with this guard
--- and body, its scope, the number of the first site in its body, and the parameters that variables reach
-abbrev pub is_made : Bool → List Param → Expr → Expr → Scope → ℕ → Bool → Name → Bool
-is_made tail rs e b g k rest x =
-    let n = number_or_zero (binding g x) in
-    let m = uses n e g + uses n b g in
-    ltb 0 m && not (rest && tail && eqb m 1 && any_reached rs (handed b g k n))
+-- whether the variable of a binary segment is used and not passed on: in a clause, in tail position or not, where
+-- variables reach these parameters; `rest` says whether the segment is all that is left
+abbrev pub is_made : Bool → List Param → ClauseUse → Bool → Name → Bool
+is_made tail rs c rest x =
+    let n = number_or_zero (binding c.scope x) in
+    let m = uses_in n c in
+    ltb 0 m && not (rest && tail && eqb m 1 && any_reached rs (handed_in n c))
 
+-- how many patterns there are
 abbrev pub pattern_count : Patterns → ℕ
 pattern_count no_pattern = 0
 pattern_count (and_pattern q qs) = suc (pattern_count qs)
@@ -58,7 +58,7 @@ module _ (made : Bool → Name → Bool) where
   each_cuts (and_seg (seg_pattern p q size unit kind flags) rest) =
       segment_cuts (shape_of size unit kind flags) q rest ∷ each_cuts rest
 
-  module _ (env : Name → Option Term) where
+  module _ (env : Lookup) where
     abbrev mutual
       pub cuts : Pattern → Term → ℕ
       cuts (alias p x q) t = cuts q t
@@ -79,4 +79,5 @@ module _ (made : Bool → Name → Bool) where
 
       pub key_cuts : KeyPatterns → Pairs → ℕ
       key_cuts no_key ps = 0
-      key_cuts (and_key (key_pattern e q) ks) ps = if_there (at_key ps (key_value env e)) (λ t. cuts q t) 0 + key_cuts ks ps
+      key_cuts (and_key (key_pattern e q) ks) ps =
+          if_there (at_key ps (key_value env e)) (λ t. cuts q t) 0 + key_cuts ks ps

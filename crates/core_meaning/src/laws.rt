@@ -1,33 +1,24 @@
-ghost use Rattle.core_form.specs.Core.{Clauses, Pattern, Patterns};
-ghost use Rattle.core_meaning.specs.Calls.{Activation};
-ghost use Rattle.core_meaning.specs.EvaluationContext.{EvaluationContext};
-ghost use Rattle.core_meaning.specs.Evaluation.{choose};
-ghost use Rattle.core_meaning.specs.PatternMatch.{AllMatch, Matches, match_all, matches};
+ghost use Rattle.core_meaning.specs.PatternMatch.{AllMatchingIsTheRelation, MatchingIsTheRelation};
 ghost use Rattle.core_meaning.specs.RunLaws.{DepthIsEnough, EntersFirst, EntersWithin, EntriesAreSpent, HappensFirst, SameWithMore, SpentAtBound};
-ghost use Rattle.core_meaning.specs.SelectiveReceive.{Chosen, LooksForMoreMessages, TakesTheFirst};
-ghost use Rattle.erl_base.specs.Names.{Name};
-ghost use Rattle.erl_term.specs.Term.{Term, Terms};
-ghost use Rattle.erl_term.specs.Terms.{Values};
-ghost use Rattle.std.specs.Prelude.{◌≡◌, ◌↔◌, Option, Some};
-ghost use Rattle.world_model.specs.Run.{M};
+ghost use Rattle.core_meaning.specs.SelectiveReceive.{FirstAcceptingIsChosen, LooksForMoreMessages, TakesTheFirst};
 
 use world_model::{receiving_looks_for_more, receiving_takes_the_first_accepted};
 
 /// A pattern matches a term, and binds these values, exactly where the function that the evaluator uses gives them.
 #[tactic(auto, using(crate::proofs::Matching::one_and_the_same, crate::proofs::Matching::all_the_same))]
 pub fn matching_is_the_relation()
-    ensures one { (env : Name → Option Term) (q : Pattern) (t : Term) (ws : Values) → Matches env q t ws ↔ (matches env q t ≡ Some ws) }
-    ensures each { (env : Name → Option Term) (qs : Patterns) (ts : Terms) (ws : Values) → AllMatch env qs ts ws ↔ (match_all env qs ts ≡ Some ws) }
+    ensures one { MatchingIsTheRelation }
+    ensures each { AllMatchingIsTheRelation }
 {}
 
 /// The clause that is chosen is the first that accepts.
 #[tactic(auto, using(crate::proofs::Selecting::chosen_exactly))]
 pub fn the_first_clause_that_accepts_is_chosen()
-    ensures { (here : Activation) (cs : Clauses) (vs : Values) (c : EvaluationContext) (body : M Values) → ((choose here cs vs c).body ≡ Some body) ↔ Chosen here cs vs c body }
+    ensures { FirstAcceptingIsChosen }
 {}
 
-/// A receive takes the first message in the order of the mailbox that a clause accepts; where there is none, it looks for
-/// more.
+/// A receive takes the first message in the order of the mailbox that a clause accepts; where there is none, it looks
+/// for more.
 pub fn receives_take_the_first_accepted()
     ensures takes { TakesTheFirst }
     ensures looks { LooksForMoreMessages }
@@ -37,7 +28,7 @@ pub fn receives_take_the_first_accepted()
 }
 
 /// A run enters at most as many functions as its bound allows, and is spent only where it entered that many.
-#[tactic(auto, using(crate::proofs::Kept::entries_are_spent, crate::proofs::Bounds::enters_within, crate::proofs::Bounds::spent_at_bound))]
+#[tactic(auto, using(crate::proofs::Bounds::staying_within))]
 pub fn entries_stay_within_the_bound()
     ensures constant { EntriesAreSpent }
     ensures within { EntersWithin }
@@ -46,7 +37,7 @@ pub fn entries_stay_within_the_bound()
 
 /// A larger bound only prolongs a run: one that the bound did not end is the same, and what happened and was entered
 /// before comes first.
-#[tactic(auto, using(crate::proofs::Bounds::same_with_more, crate::proofs::Bounds::happens_first, crate::proofs::Bounds::enters_first))]
+#[tactic(auto, using(crate::proofs::Bounds::larger_prolongs))]
 pub fn a_larger_bound_prolongs()
     ensures same { SameWithMore }
     ensures happens { HappensFirst }

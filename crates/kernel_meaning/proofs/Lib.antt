@@ -1,4 +1,4 @@
-pub mod Agreeing
-pub mod Steady
+mod Agreeing
+mod Steady
 mod Examples
 mod Checked

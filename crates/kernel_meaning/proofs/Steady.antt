@@ -15,16 +15,16 @@ use Rattle.world_model.specs.Requests.{send_to, call_out, send_or_call, is_send,
 use Rattle.world_model.specs.Receive.{timeout_of, Tried}
 use Rattle.world_model.specs.RemoteCalls.{call_erlang, call_terms, apply_term, raise_again}
 use Rattle.world_model.specs.Entries.{entering}
-use Rattle.step_machine.specs.Bodies.{Body, here_of, callees}
+use Rattle.step_machine.specs.Bodies.{BodyMeaning, here_of, callees}
 use Rattle.core_meaning.specs.SegmentMatch.{if_there, match_segs}
 use Rattle.core_meaning.specs.ClauseChoice.{blank, is_true, none_tried, and_cuts}
 use Rattle.core_meaning.specs.MarkingCalls.{marking, last_mark}
-use Rattle.core_meaning.specs.Evaluation.{or_badarg, build_each}
+use Rattle.core_meaning.specs.Evaluation.{bits_or_badarg, build_each}
 use Rattle.kernel_form.specs.Kernel.{Simple, value, cons, tuple, map_put, bits, make_fun, bif, local, apply, remote, send, trace, raise, failing, Expr, values, simple, let_in, match_in, try, catch, receive, Tree, body, fall, either_in, switch, segments, step, guarded, case, Cases, no_case, and_case, seg_row, SegRows, no_row, and_row, Fun}
 use Rattle.kernel_meaning.specs.Environment.{Env, no_values, with_value, with_values, Rests, no_rests, read, read_all, read_pairs, read_parts, Setting}
 use Rattle.kernel_meaning.specs.PatternMatch.{with_bindings, segments_of}
 use Rattle.kernel_meaning.specs.Steps.{simply, parts_of, bin_step}
-use Rattle.kernel_meaning.specs.KernelRun.{Falls, no_falls, with_fall, taken, select, if_holds, or_stuck, matched, is_marked, meaning, tree, cases, rows, fun_does}
+use Rattle.kernel_meaning.specs.KernelRun.{Falls, no_falls, with_fall, taken, select, if_holds, or_stuck, matched, is_marked, meaning, tree_does, cases_do, rows_do, fun_does}
 use Rattle.pass_contract.specs.SameRun.{SameState, SameResult, Agree, EntersAgree}
 use Rattle.kernel_meaning.specs.Agreement.{OptionAgrees, TriedAgrees}
 use Rattle.kernel_meaning.proofs.Agreeing.{give_agrees, fail_agrees, noting_agrees, cutting_agrees, bind_agrees, either_agrees, ask_agrees, left_agrees, receiving_agrees, same_state}
@@ -72,7 +72,7 @@ raise_agrees : (t r : Term) → Agree (raise_again t r) (raise_again t r)
 raise_agrees (T.raw_trace c) r = fail_agrees c r
 raise_agrees _ r = fail_agrees _ _
 
-badarg_agrees : (o : Option (List Bool)) → Agree (or_badarg o) (or_badarg o)
+badarg_agrees : (o : Option (List Bool)) → Agree (bits_or_badarg o) (bits_or_badarg o)
 badarg_agrees None = fail_agrees _ _
 badarg_agrees (Some bs) = single_agrees _
 
@@ -235,7 +235,7 @@ module _ (name : Name) (own : Term) (f g : ℕ → Values → M Term) (enters : 
           (receiving_agrees _ _ (λ m. tree_agrees t (with_value env x m) no_rests tail no_falls no_falls no_falls_agree)
           (timeout_of (read env v)) _ _ (meaning_agrees b env tail))
 
-      tree_agrees : (t : Tree) (env : Env) (r : Rests) (tail : Bool) (fs gs : Falls) → FallsAgree fs gs → TriedAgrees (tree w (here_of name own f) t env r tail fs) (tree w (here_of name own g) t env r tail gs)
+      tree_agrees : (t : Tree) (env : Env) (r : Rests) (tail : Bool) (fs gs : Falls) → FallsAgree fs gs → TriedAgrees (tree_does w (here_of name own f) t env r tail fs) (tree_does w (here_of name own g) t env r tail gs)
       tree_agrees (body e) env r tail fs gs h = taken_agrees _ _ (meaning_agrees e env tail)
       tree_agrees (fall k) env r tail fs gs h = h k r
       tree_agrees (either_in k a b) env r tail fs gs h =
@@ -248,12 +248,12 @@ module _ (name : Name) (own : Term) (f g : ℕ → Values → M Term) (enters : 
       tree_agrees (guarded e a b) env r tail fs gs h =
           holds_agrees _ _ _ _ _ _ (meaning_agrees e env false blank blank (same_state blank)) (tree_agrees a env r tail fs gs h) (tree_agrees b env r tail fs gs h)
 
-      cases_agree : (cs : Cases) (u : Term) (env : Env) (r : Rests) (tail : Bool) (fs gs : Falls) → FallsAgree fs gs → (a b : Tried Values) → TriedAgrees a b → TriedAgrees (cases w (here_of name own f) cs u env r tail fs a) (cases w (here_of name own g) cs u env r tail gs b)
+      cases_agree : (cs : Cases) (u : Term) (env : Env) (r : Rests) (tail : Bool) (fs gs : Falls) → FallsAgree fs gs → (a b : Tried Values) → TriedAgrees a b → TriedAgrees (cases_do w (here_of name own f) cs u env r tail fs a) (cases_do w (here_of name own g) cs u env r tail gs b)
       cases_agree no_case u env r tail fs gs h a b i = i
       cases_agree (and_case (case s xs t) cs) u env r tail fs gs h a b i =
           parts_agree (parts_of s env u) _ _ _ _ (λ vs. tree_agrees t (with_values env xs vs) r tail fs gs h) (cases_agree cs u env r tail fs gs h a b i)
 
-      rows_agree : (rs : SegRows) (u : Term) (env : Env) (r : Rests) (tail : Bool) (fs gs : Falls) → FallsAgree fs gs → (a b : Tried Values) → TriedAgrees a b → TriedAgrees (rows w (here_of name own f) rs u env r tail fs a) (rows w (here_of name own g) rs u env r tail gs b)
+      rows_agree : (rs : SegRows) (u : Term) (env : Env) (r : Rests) (tail : Bool) (fs gs : Falls) → FallsAgree fs gs → (a b : Tried Values) → TriedAgrees a b → TriedAgrees (rows_do w (here_of name own f) rs u env r tail fs a) (rows_do w (here_of name own g) rs u env r tail gs b)
       rows_agree no_row u env r tail fs gs h a b i = i
       rows_agree (and_row (seg_row ss t) rs) (T.bits bs) env r tail fs gs h a b i =
           and_cuts_agrees _ _ _ _ (omega arith)
@@ -261,7 +261,7 @@ module _ (name : Name) (own : Term) (f g : ℕ → Values → M Term) (enters : 
       rows_agree (and_row (seg_row ss t) rs) _ env r tail fs gs h a b i = i
 
 -- two bodies that do the same where the functions that they enter agree
-abbrev BodyAgrees : Body → Body → Type 0
+abbrev BodyAgrees : BodyMeaning → BodyMeaning → Type 0
 BodyAgrees old new =
     (name : Name) (own : Term) (f g : ℕ → Values → M Term) → EntersAgree f g → (vs : Values) (s t : State) → SameState s t →
     SameResult (old (here_of name own f) vs s) (new (here_of name own g) vs t)

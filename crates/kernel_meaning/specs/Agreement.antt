@@ -15,10 +15,13 @@ OptionAgrees None None = Unit {0}
 OptionAgrees (Some m) (Some k) = Agree m k
 OptionAgrees _ _ = ⊥
 
+-- and no more sub-binaries
 pub record TriedAgrees {A : Type 0} (old new : Tried A) : Type 0 where
   pub cuts : new.cuts ≤ old.cuts
   pub body : OptionAgrees old.body new.body
 
 -- functions with one meaning agree
 abbrev pub SameMeaningAgrees : Type 0
-SameMeaningAgrees = (w : Setting) (old new : Fun) → fun_does w old ≡ fun_does w new → Agrees ((form_of old).does w) ((form_of new).does w)
+SameMeaningAgrees =
+    (w : Setting) (old new : Fun) → fun_does w old ≡ fun_does w new
+    → Agrees ((form_of old).does w) ((form_of new).does w)

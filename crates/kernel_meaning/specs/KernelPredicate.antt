@@ -1,6 +1,7 @@
 -- Which functions in kernel form are well formed: what the construction of blocks may count on (this project's own).
 use Rattle.std.specs.Prelude.{◌≡◌, ◌<◌, ℕ, List, [], ◌∷◌, ◌++◌, length, slice_get, Bool, true, false, not, ◌&&◌, ◌||◌, eqb, leb, Some, IsTrue}
 use Rattle.std.specs.List.{All, Contains}
+use Rattle.erl_base.specs.Lists.{among}
 use Rattle.erl_term.specs.Term as T
 use Rattle.erl_term.specs.Term.{Term}
 use Rattle.erl_term.specs.TermOrder.{same_term}
@@ -8,13 +9,14 @@ use Rattle.erl_term.specs.Terms.{listed}
 use Rattle.bif_table.specs.Builtins.{arity_of}
 use Rattle.world_model.specs.RemoteCalls.{takes}
 use Rattle.kernel_form.specs.Kernel.{Value, var, lit, MapPair, Part, Simple, value, cons, tuple, map_put, bits, make_fun, bif, local, apply, remote, send, trace, raise, failing, any, bind, known, Seg, seg, Segs, no_seg, and_seg, Shape, is, is_cons, is_tuple, map_has, BinStep, start, integer, take_bits, done, mark, back, Expr, values, simple, let_in, match_in, try, catch, receive, Tree, body, fall, either_in, switch, segments, step, guarded, case, Cases, no_case, and_case, seg_row, SegRows, no_row, and_row, Fun}
-use Rattle.kernel_meaning.specs.Environment.{width, among}
+use Rattle.kernel_meaning.specs.Environment.{width}
 use Rattle.kernel_meaning.specs.KernelRun.{widths}
 use Rattle.kernel_meaning.specs.Windows.{window_fits}
 use Rattle.kernel_meaning.specs.Walks.{gathered, nothing, binders, bound_by_seg, bound_by_segs, receives}
 
 -- The number of values: a raise has every number.
 
+-- of a simple step
 abbrev pub simple_gives : Simple → ℕ → Bool
 simple_gives (raise v r) n = true
 simple_gives (failing v) n = true
@@ -51,22 +53,27 @@ abbrev mutual
 -- Scopes: a variable is read only where it is bound; xs are the terms, cs the places of this tree, and ks
 -- the numbers of the `either_in` that a fall may go to. A fall of a match has one; a fall of a receive may have none.
 
+-- a value
 abbrev pub sees : List ℕ → Value → Bool
 sees xs (var x) = among x xs
 sees xs (lit t) = true
 
+-- values
 abbrev pub sees_all : List ℕ → List Value → Bool
 sees_all xs [] = true
 sees_all xs (v ∷ vs) = sees xs v && sees_all xs vs
 
+-- the pairs of a map
 abbrev pub sees_pairs : List ℕ → List MapPair → Bool
 sees_pairs xs [] = true
 sees_pairs xs (p ∷ ps) = sees xs p.key && sees xs p.value && sees_pairs xs ps
 
+-- the segments of a new bit string
 abbrev pub sees_parts : List ℕ → List Part → Bool
 sees_parts xs [] = true
 sees_parts xs (p ∷ ps) = sees xs p.value && sees xs p.size && sees_parts xs ps
 
+-- what a simple step reads
 abbrev pub simple_scoped : List ℕ → Simple → Bool
 simple_scoped xs (value v) = sees xs v
 simple_scoped xs (cons v u) = sees xs v && sees xs u
@@ -83,6 +90,7 @@ simple_scoped xs trace = true
 simple_scoped xs (raise v r) = sees xs v && sees xs r
 simple_scoped xs (failing v) = sees xs v
 
+-- a shape reads at most the key of a map
 abbrev pub shape_scoped : List ℕ → Shape → Bool
 shape_scoped xs (map_has v) = sees xs v
 shape_scoped xs _ = true
@@ -94,32 +102,37 @@ seg_scoped xs (seg (bind x) v h) = sees xs v
 seg_scoped xs (seg (known t) v h) = sees xs v
 seg_scoped xs _ = false
 
+-- segments, each seeing what earlier ones bind
 abbrev pub segs_scoped : List ℕ → Segs → Bool
 segs_scoped xs no_seg = true
 segs_scoped xs (and_seg s ss) = seg_scoped xs s && segs_scoped (bound_by_seg s ++ xs) ss
 
-abbrev pub is_bits : Seg → Bool
-is_bits (seg q v h) = h.is_binary
+-- whether a segment takes bits as they are
+abbrev pub is_binary_seg : Seg → Bool
+is_binary_seg (seg q v h) = h.is_binary
 
 -- what a step leaves beside terms: a context, or a position of a context
 pub data Point : Type 0 where
   context : ℕ → Point
   position : ℕ → ℕ → Point
 
+-- whether a context is there
 abbrev pub has_context : ℕ → List Point → Bool
 has_context c [] = false
 has_context c (context d ∷ cs) = eqb c d || has_context c cs
 has_context c (position p d ∷ cs) = has_context c cs
 
+-- whether a position of a context is there
 abbrev pub has_position : ℕ → ℕ → List Point → Bool
 has_position p c [] = false
 has_position p c (context d ∷ cs) = has_position p c cs
 has_position p c (position q d ∷ cs) = eqb p q && eqb c d || has_position p c cs
 
+-- a step on bits reads contexts and positions that are there
 abbrev pub step_scoped : List ℕ → List Point → BinStep → Bool
 step_scoped xs cs (start x c) = among x xs
-step_scoped xs cs (integer c s) = has_context c cs && not (is_bits s) && seg_scoped xs s
-step_scoped xs cs (take_bits c s) = has_context c cs && is_bits s && seg_scoped xs s
+step_scoped xs cs (integer c s) = has_context c cs && not (is_binary_seg s) && seg_scoped xs s
+step_scoped xs cs (take_bits c s) = has_context c cs && is_binary_seg s && seg_scoped xs s
 step_scoped xs cs (done c) = has_context c cs
 step_scoped xs cs (mark c p) = has_context c cs
 step_scoped xs cs (back c p) = has_context c cs && has_position p c cs
@@ -130,10 +143,11 @@ step_terms (integer c s) = bound_by_seg s
 step_terms (take_bits c s) = bound_by_seg s
 step_terms _ = []
 
-abbrev pub step_places : BinStep → List Point
-step_places (start x c) = context c ∷ []
-step_places (mark c p) = position p c ∷ []
-step_places _ = []
+-- the places that it leaves
+abbrev pub step_points : BinStep → List Point
+step_points (start x c) = context c ∷ []
+step_points (mark c p) = position p c ∷ []
+step_points _ = []
 
 abbrev mutual
   pub scoped : Expr → List ℕ → Bool
@@ -150,11 +164,15 @@ abbrev mutual
   tree_scoped (body e) xs cs strict ks = scoped e xs
   tree_scoped (fall k) xs cs strict ks = not strict || among k ks
   tree_scoped (either_in k a b) xs cs strict ks = tree_scoped a xs cs strict (k ∷ ks) && tree_scoped b xs cs strict ks
-  tree_scoped (switch x hs t) xs cs strict ks = among x xs && cases_scoped hs xs cs strict ks && tree_scoped t xs cs strict ks
-  tree_scoped (segments x rs t) xs cs strict ks = among x xs && rows_scoped rs xs cs strict ks && tree_scoped t xs cs strict ks
+  tree_scoped (switch x hs t) xs cs strict ks =
+      among x xs && cases_scoped hs xs cs strict ks && tree_scoped t xs cs strict ks
+  tree_scoped (segments x rs t) xs cs strict ks =
+      among x xs && rows_scoped rs xs cs strict ks && tree_scoped t xs cs strict ks
   tree_scoped (step z a b) xs cs strict ks =
-      step_scoped xs cs z && tree_scoped a (step_terms z ++ xs) (step_places z ++ cs) strict ks && tree_scoped b xs cs strict ks
-  tree_scoped (guarded g a b) xs cs strict ks = scoped g xs && tree_scoped a xs cs strict ks && tree_scoped b xs cs strict ks
+      step_scoped xs cs z && tree_scoped a (step_terms z ++ xs) (step_points z ++ cs) strict ks
+      && tree_scoped b xs cs strict ks
+  tree_scoped (guarded g a b) xs cs strict ks =
+      scoped g xs && tree_scoped a xs cs strict ks && tree_scoped b xs cs strict ks
 
   pub cases_scoped : Cases → List ℕ → List Point → Bool → List ℕ → Bool
   cases_scoped no_case xs cs strict ks = true
@@ -168,19 +186,22 @@ abbrev mutual
 
 -- Calls have as many arguments as their functions have parameters.
 
+-- of a simple step, where functions have these many parameters
 abbrev pub simple_fits : List ℕ → Simple → Bool
 simple_fits ws (bif b vs) = eqb (length vs) (arity_of b)
 simple_fits ws (local n vs) = takes (slice_get ws n) (length vs)
 simple_fits ws (make_fun n vs) = takes (slice_get ws n) (width ws n) && leb (length vs) (width ws n)
 simple_fits ws _ = true
 
+-- of a node
 abbrev pub calls_fit : List ℕ → Expr → Bool
 calls_fit ws (simple s) = simple_fits ws s
 calls_fit ws _ = true
 
--- Switches: no two shapes without a key have a term in common, each case has as many variables as its shape has parts, and
--- the last tree is no switch on the same variable.
+-- Switches: no two shapes without a key have a term in common, each case has as many variables as its shape has parts,
+-- and the last tree is no switch on the same variable.
 
+-- whether no term has both shapes; a shape with a key may have terms in common with others
 abbrev pub apart : Shape → Shape → Bool
 apart (map_has v) h = true
 apart h (map_has v) = true
@@ -193,16 +214,19 @@ apart is_cons is_cons = false
 apart (is_tuple n) (is_tuple m) = not (eqb n m)
 apart _ _ = true
 
+-- how many parts a term of the shape has
 abbrev pub parts_in : Shape → ℕ
 parts_in (is t) = 0
 parts_in is_cons = 2
 parts_in (is_tuple n) = n
 parts_in (map_has v) = 1
 
+-- whether a shape is apart from those of cases
 abbrev pub apart_from : Shape → Cases → Bool
 apart_from h no_case = true
 apart_from h (and_case (case k xs t) cs) = apart h k && apart_from h cs
 
+-- whether the shapes of cases are apart, and each case binds all parts
 abbrev pub all_apart : Cases → Bool
 all_apart no_case = true
 all_apart (and_case (case h xs t) cs) = eqb (length xs) (parts_in h) && apart_from h cs && all_apart cs
@@ -213,29 +237,35 @@ has_key_case no_case = false
 has_key_case (and_case (case (map_has v) xs t) cs) = true
 has_key_case (and_case (case h xs t) cs) = has_key_case cs
 
+-- whether a tree switches on this variable, and neither switch looks for keys
 abbrev pub switches_again : ℕ → Cases → Tree → Bool
 switches_again x cs (switch y ds t) = eqb x y && not (has_key_case cs || has_key_case ds)
 switches_again x cs _ = false
 
+-- of a node
 abbrev pub switch_fits : Tree → Bool
 switch_fits (switch x cs t) = all_apart cs && not (switches_again x cs t)
 switch_fits _ = true
 
 -- No segments are left for a tree to match: they are steps by now.
 
+-- of a node
 abbrev pub is_by_steps : Tree → Bool
 is_by_steps (segments x rs t) = false
 is_by_steps _ = true
 
+-- whether all are true
 abbrev pub all_true : List Bool → Bool
 all_true [] = true
 all_true (b ∷ bs) = b && all_true bs
 
+-- whether this holds of each node
 abbrev pub everywhere : (Expr → Bool) → (Tree → Bool) → Expr → Bool
 everywhere f g e = all_true (gathered (λ x. f x ∷ []) (λ t. g t ∷ []) nothing nothing e)
 
 -- Guards make no request, enter no function and receive nothing. A catch may ask for a trace.
 
+-- of a simple step
 abbrev pub is_silent_step : Simple → Bool
 is_silent_step (local n vs) = false
 is_silent_step (apply v vs) = false
@@ -244,12 +274,14 @@ is_silent_step (send v u) = false
 is_silent_step trace = false
 is_silent_step _ = true
 
+-- of a node
 abbrev pub is_silent : Expr → Bool
 is_silent (simple s) = is_silent_step s
 is_silent (catch a) = false
 is_silent (receive n x t v b) = false
 is_silent _ = true
 
+-- of a node: each node of its guard
 abbrev pub has_silent_guard : Tree → Bool
 has_silent_guard (guarded g a b) = everywhere is_silent (λ t. true) g
 has_silent_guard _ = true
@@ -259,6 +291,7 @@ abbrev pub Distinct : List ℕ → Type 0
 Distinct [] = Unit {0}
 Distinct (x ∷ xs) = (Contains xs x → ⊥) × Distinct xs
 
+-- a function, where the functions of its module have these many parameters
 pub record WellFormed (ws : List ℕ) (f : Fun) : Type 0 where
   -- one value comes back
   pub gives : IsTrue (gives f.body 1)
@@ -276,6 +309,7 @@ pub record WellFormed (ws : List ℕ) (f : Fun) : Type 0 where
   -- its receives have numbers of their own
   pub receives : Distinct (receives f.body)
 
+-- the numbers of all receives of these functions
 abbrev pub all_receives : List Fun → List ℕ
 all_receives [] = []
 all_receives (f ∷ fs) = receives f.body ++ all_receives fs

@@ -15,22 +15,23 @@ use Rattle.world_model.specs.Requests.{answers, send_to}
 use Rattle.world_model.specs.RemoteCalls.{call_terms, apply_term, raise_again}
 use Rattle.world_model.specs.Entries.{entering}
 use Rattle.step_machine.specs.Bodies.{Here, callees}
-use Rattle.core_meaning.specs.Evaluation.{build_each, or_badarg}
+use Rattle.core_meaning.specs.Evaluation.{build_each, bits_or_badarg}
 use Rattle.kernel_form.specs.Kernel.{Simple, value, cons, tuple, map_put, bits, make_fun, bif, local, apply, remote, send, trace, raise, failing, Shape, is, is_cons, is_tuple, map_has, BinStep, start, integer, take_bits, done, mark, back, Seg, seg}
 use Rattle.kernel_meaning.specs.Environment.{Env, Rests, with_rest, read, read_all, read_pairs, read_parts, Setting, width}
-use Rattle.kernel_meaning.specs.PatternMatch.{match_segment, with_segment, made}
+use Rattle.kernel_meaning.specs.PatternMatch.{segment_binds, with_segment, made}
 
 -- a fun of this module; its arity is what its function takes beside the captured terms
 abbrev pub fun_of : List ℕ → Here → ℕ → Values → Term
 fun_of ws here site cs = T.fun here.name site (width ws site - length cs) (terms cs)
 
+-- what a simple step gives
 unfoldable pub simply : Setting → Here → Simple → Env → Bool → M Values
 unfolding answer put_all call_terms
 simply w here (value v) env tail = single (read env v)
 simply w here (cons v u) env tail = single (T.cons (read env v) (read env u))
 simply w here (tuple vs) env tail = single (T.tuple (terms (read_all env vs)))
 simply w here (map_put v ps) env tail = put_all (read_pairs env ps) (read env v)
-simply w here (bits ps) env tail = or_badarg (build_each (read_parts env ps))
+simply w here (bits ps) env tail = bits_or_badarg (build_each (read_parts env ps))
 simply w here (make_fun n vs) env tail = single (fun_of w.widths here n (read_all env vs))
 simply w here (bif b vs) env tail = answers (answer b here.own (read_all env vs))
 simply w here (local n vs) env tail = entering here.enter n tail (read_all env vs)
@@ -52,38 +53,42 @@ parts_of _ env _ = None
 
 -- What a step on bits comes to: what is bound and how many sub-binaries it makes where it succeeds, and in either case
 -- the contexts as they are then.
-pub record Stepped : Type 0 where
+pub record BitsResult : Type 0 where
   pub bound : Option Env
   pub rests : Rests
   pub cuts : ℕ
 
-abbrev pub stepped : Option Env → Rests → ℕ → Stepped
-stepped o r n = record { bound = o; rests = r; cuts = n }
+-- with these bindings, contexts and sub-binaries
+abbrev pub bits_result : Option Env → Rests → ℕ → BitsResult
+bits_result o r n = record { bound = o; rests = r; cuts = n }
 
-abbrev pub opened : ℕ → Term → Env → Rests → Stepped
-opened c (T.bits bs) env r = stepped (Some env) (with_rest r c bs) 0
-opened c _ env r = stepped None r 0
+-- a match begins: a bit string gets a context
+abbrev pub opened : ℕ → Term → Env → Rests → BitsResult
+opened c (T.bits bs) env r = bits_result (Some env) (with_rest r c bs) 0
+opened c _ env r = bits_result None r 0
 
-abbrev pub finished : List Bool → Env → Rests → Stepped
-finished [] env r = stepped (Some env) r 0
-finished (b ∷ bs) env r = stepped None r 0
+-- a match ends: no bits are left
+abbrev pub finished : List Bool → Env → Rests → BitsResult
+finished [] env r = bits_result (Some env) r 0
+finished (b ∷ bs) env r = bits_result None r 0
 
 -- a segment whose bits can be taken moves the context on, also where its value is another one
-abbrev pub taken_seg : List ℕ → ℕ → Seg → Env → Rests → Stepped
+abbrev pub taken_seg : List ℕ → ℕ → Seg → Env → Rests → BitsResult
 taken_seg hs c (seg q v h) env r =
     elim (taken_size h (Some (read env v)) (length (r c))) [
-      | None ↦ stepped None r 0
+      | None ↦ bits_result None r 0
       | Some n ↦
           let t = segment_value h (take n (r c)) in
-          stepped (elim (match_segment q t) [ None ↦ None | Some xs ↦ Some (with_segment env q t) ])
+          bits_result (elim (segment_binds q t) [ None ↦ None | Some xs ↦ Some (with_segment env q t) ])
           (with_rest r c (drop n (r c))) (made hs h q)
     ]
 
-unfoldable pub bin_step : Setting → BinStep → Env → Rests → Stepped
+-- what a step on bits does
+unfoldable pub bin_step : Setting → BinStep → Env → Rests → BitsResult
 unfolding same_term
 bin_step w (start x c) env r = opened c (env x) env r
 bin_step w (integer c s) env r = taken_seg w.handed c s env r
 bin_step w (take_bits c s) env r = taken_seg w.handed c s env r
 bin_step w (done c) env r = finished (r c) env r
-bin_step w (mark c p) env r = stepped (Some env) (with_rest r p (r c)) 0
-bin_step w (back c p) env r = stepped (Some env) (with_rest r c (r p)) 0
+bin_step w (mark c p) env r = bits_result (Some env) (with_rest r p (r c)) 0
+bin_step w (back c p) env r = bits_result (Some env) (with_rest r c (r p)) 0

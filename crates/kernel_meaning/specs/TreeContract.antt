@@ -7,7 +7,7 @@ use Rattle.world_model.specs.Run.{M}
 use Rattle.step_machine.specs.Bodies.{here_of}
 use Rattle.kernel_form.specs.Kernel.{Tree, Row, var, match_in}
 use Rattle.kernel_meaning.specs.Environment.{Env, no_rests, read_all, Setting}
-use Rattle.kernel_meaning.specs.KernelRun.{no_falls, tree, clauses}
+use Rattle.kernel_meaning.specs.KernelRun.{no_falls, tree_does, clauses_do}
 use Rattle.pass_contract.specs.SameRun.{EntersAgree}
 use Rattle.pass_contract.specs.PassContract.{IsLeft}
 use Rattle.kernel_meaning.specs.Agreement.{TriedAgrees}
@@ -17,14 +17,17 @@ use Rattle.kernel_meaning.specs.Walks.{binders, receives, let_calls}
 abbrev pub TreeAgrees : Tree → Tree → Type 0
 TreeAgrees old new =
     (w : Setting) (name : Name) (own : Term) (f g : ℕ → Values → M Term) → EntersAgree f g → (env : Env) (tail : Bool) →
-    TriedAgrees (tree w (here_of name own f) old env no_rests tail no_falls) (tree w (here_of name own g) new env no_rests tail no_falls)
+    TriedAgrees (tree_does w (here_of name own f) old env no_rests tail no_falls)
+    (tree_does w (here_of name own g) new env no_rests tail no_falls)
 
 -- a tree does what clauses do with the values of these variables
 abbrev pub TreeTakesRows : List ℕ → List Row → Tree → Type 0
 TreeTakesRows places xs new =
     (w : Setting) (name : Name) (own : Term) (f g : ℕ → Values → M Term) → EntersAgree f g → (env : Env) (tail : Bool) →
-    TriedAgrees (clauses w (here_of name own f) xs (read_all env (map var places)) env tail) (tree w (here_of name own g) new env no_rests tail no_falls)
+    TriedAgrees (clauses_do w (here_of name own f) xs (read_all env (map var places)) env tail)
+    (tree_does w (here_of name own g) new env no_rests tail no_falls)
 
+-- what a pass over one tree keeps
 pub record TreeKeeps (nodes : ℕ) (old new : Tree) : Type 0 where
   pub agrees : TreeAgrees old new
   pub receives : IsLeft (receives (match_in old)) (receives (match_in new))

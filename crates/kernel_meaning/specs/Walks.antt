@@ -6,7 +6,8 @@ use Rattle.kernel_meaning.specs.KernelRun.{fun_does}
 use Rattle.pass_contract.specs.PassContract.{Form, at_once}
 
 -- what each node has of its own, a node before those in it
-module _ {A : Type 0} (at : Expr → List A) (at_tree : Tree → List A) (at_case : Case → List A) (at_row : SegRow → List A) where
+module _ {A : Type 0}
+    (at : Expr → List A) (at_tree : Tree → List A) (at_case : Case → List A) (at_row : SegRow → List A) where
   abbrev mutual
     pub gathered : Expr → List A
     gathered (values vs) = at (values vs)
@@ -34,19 +35,23 @@ module _ {A : Type 0} (at : Expr → List A) (at_tree : Tree → List A) (at_cas
     gathered_rows no_row = []
     gathered_rows (and_row (seg_row ss t) rs) = at_row (seg_row ss t) ++ gathered_tree t ++ gathered_rows rs
 
+-- of no node
 abbrev pub nothing : {A B : Type 0} → A → List B
 nothing a = []
 
 -- The variables that are bound, contexts and positions too.
 
+-- by a segment
 abbrev pub bound_by_seg : Seg → List ℕ
 bound_by_seg (seg (bind x) v h) = x ∷ []
 bound_by_seg _ = []
 
+-- by segments
 abbrev pub bound_by_segs : Segs → List ℕ
 bound_by_segs no_seg = []
 bound_by_segs (and_seg s ss) = bound_by_seg s ++ bound_by_segs ss
 
+-- by a step on bits
 abbrev pub bound_by_step : BinStep → List ℕ
 bound_by_step (start x c) = c ∷ []
 bound_by_step (integer c s) = bound_by_seg s
@@ -55,38 +60,47 @@ bound_by_step (done c) = []
 bound_by_step (mark c p) = p ∷ []
 bound_by_step (back c p) = []
 
+-- by an expression alone
 abbrev pub bound_at : Expr → List ℕ
 bound_at (let_in xs a b) = xs
 bound_at (try a xs b ys c) = xs ++ ys
 bound_at (receive n x t v b) = x ∷ []
 bound_at _ = []
 
+-- by a tree alone
 abbrev pub bound_at_tree : Tree → List ℕ
 bound_at_tree (step z a b) = bound_by_step z
 bound_at_tree _ = []
 
+-- by a case
 abbrev pub bound_at_case : Case → List ℕ
 bound_at_case (case h xs t) = xs
 
+-- by a row
 abbrev pub bound_at_row : SegRow → List ℕ
 bound_at_row (seg_row ss t) = bound_by_segs ss
 
+-- by a whole expression
 abbrev pub binders : Expr → List ℕ
 binders e = gathered bound_at bound_at_tree bound_at_case bound_at_row e
 
 -- Receives by their numbers, and the variables that lets bind to calls of other modules' functions.
 
+-- the number of a receive
 abbrev pub number_at : Expr → List ℕ
 number_at (receive n x t v b) = n ∷ []
 number_at _ = []
 
+-- the variable of a let-bound call
 abbrev pub call_at : Expr → List ℕ
 call_at (let_in (x ∷ []) (simple (remote m f vs)) b) = x ∷ []
 call_at _ = []
 
+-- the receives of an expression
 abbrev pub receives : Expr → List ℕ
 receives e = gathered number_at nothing nothing nothing e
 
+-- the let-bound calls of an expression
 abbrev pub let_calls : Expr → List ℕ
 let_calls e = gathered call_at nothing nothing nothing e
 

@@ -1,5 +1,5 @@
--- How many variables the blocks of a receive set from when a message is found until it is taken or passed over (this project's
--- own): what its patterns and guards bind, and the answers of their tests. Bodies come after.
+-- How many variables the blocks of a receive set from when a message is found until it is taken or passed over (this
+-- project's own): what its patterns and guards bind, and the answers of their tests. Bodies come after.
 use Rattle.std.specs.Prelude.{ℕ, ◌+◌, [], ◌∷◌, length, sum, Bool, true, leb}
 use Rattle.kernel_form.specs.Kernel.{Segs, no_seg, and_seg, BinStep, start, integer, take_bits, done, mark, back, Expr, values, simple, let_in, match_in, try, catch, receive, Tree, body, fall, either_in, switch, segments, step, guarded, Case, case, Cases, no_case, and_case, SegRow, seg_row, SegRows, no_row, and_row}
 use Rattle.kernel_meaning.specs.Walks.{gathered}
@@ -22,6 +22,7 @@ segs_set (and_seg s ss) = 3 + segs_set ss
 abbrev pub case_sets : Case → ℕ
 case_sets (case h xs t) = 2 + length xs
 
+-- of a row its segments
 abbrev pub row_sets : SegRow → ℕ
 row_sets (seg_row ss t) = segs_set ss
 
@@ -35,12 +36,15 @@ expr_sets (try a xs b ys c) = 1 + length xs + length ys
 expr_sets (catch a) = 2
 expr_sets (receive n x t v b) = 1
 
+-- of the other trees only what is in them
 abbrev pub tree_sets : Tree → ℕ
 tree_sets (step z a b) = step_sets z
 tree_sets _ = 0
 
+-- all nodes of a guard
 abbrev pub guard_sets : Expr → ℕ
-guard_sets g = sum (gathered (λ e. expr_sets e ∷ []) (λ t. tree_sets t ∷ []) (λ c. case_sets c ∷ []) (λ r. row_sets r ∷ []) g)
+guard_sets g =
+    sum (gathered (λ e. expr_sets e ∷ []) (λ t. tree_sets t ∷ []) (λ c. case_sets c ∷ []) (λ r. row_sets r ∷ []) g)
 
 abbrev mutual
   pub window : Tree → ℕ
@@ -60,8 +64,12 @@ abbrev mutual
   rows_window no_row = 0
   rows_window (and_row (seg_row ss t) rs) = row_sets (seg_row ss t) + window t + rows_window rs
 
--- The machine has registers for 1,022 of them. The patterns and guards of a receive have at most 340 nodes with three variables
--- each, and there is the message.
+-- the most that they may be: the patterns and guards of a receive have at most 340 nodes with three variables each, and
+-- there is the message; the machine has registers for 1,022
+abbrev pub most_in_window : ℕ
+most_in_window = 1021
+
+-- of a node: a receive's message and what its tree sets
 abbrev pub window_fits : Expr → Bool
-window_fits (receive n x t v b) = leb (1 + window t) 1021
+window_fits (receive n x t v b) = leb (1 + window t) most_in_window
 window_fits _ = true

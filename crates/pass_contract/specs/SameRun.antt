@@ -23,6 +23,7 @@ pub record SameState (old new : State) : Type 0 where
   pub done : done new.notes ≡ done old.notes
   pub sub_binaries : sub_binaries new.notes ≤ sub_binaries old.notes
 
+-- results that differ no more than their states
 pub record SameResult {A : Type 0} (old new : State × Outcome A) : Type 0 where
   pub state : SameState old.0 new.0
   pub end : new.1 ≡ old.1

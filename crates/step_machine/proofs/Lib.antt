@@ -1,4 +1,4 @@
-pub mod OneWay
+pub mod OneWayLaws
 pub mod RunLaws
-pub mod Noting
-pub mod Keeping
+pub mod NotingLaws
+pub mod EntryLaws

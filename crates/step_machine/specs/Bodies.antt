@@ -13,15 +13,17 @@ pub record Here : Type 0 where
   pub own : Term
   pub enter : ℕ → Values → M Term
 
+-- a module with this name in a process with this pid, whose functions are entered so
 abbrev pub here_of : Name → Term → (ℕ → Values → M Term) → Here
 here_of name own f = record { name = name; own = own; enter = f }
 
 -- what a body does with arguments, whatever the other functions are
-abbrev pub Body : Type 0
-Body = Here → Values → M Term
+abbrev pub BodyMeaning : Type 0
+BodyMeaning = Here → Values → M Term
 
+-- a body for each site
 abbrev pub Bodies : Type 0
-Bodies = ℕ → Body
+Bodies = ℕ → BodyMeaning
 
 -- enters a function of the module, where functions are entered at most d deep
 unfoldable pub entered_deep : Name → Term → Bodies → ℕ → ℕ → Values → M Term

@@ -6,13 +6,14 @@ use Rattle.world_model.specs.Run.{Entry, Looked, Outcome, gives, raises, waits, 
 use Rattle.world_model.specs.World.{Happening}
 use Rattle.world_model.specs.World.{Reply}
 use Rattle.step_machine.specs.Steps as Steps
-use Rattle.step_machine.specs.Steps.{Stepped, Note, Ran, End, over, unfinished, is_bad, happenings, entries, sites, serials}
+use Rattle.step_machine.specs.Steps.{Stepped, Event, Ran, End, over, unfinished, is_bad, happenings, entries, sites, serials}
 
 -- what a meaning with a bound noted, the latest first, and its end
 pub record Meant : Type 0 where
   pub notes : List Run.Note
   pub end : Outcome Term
 
+-- the sites of entries
 abbrev pub site_list : List Entry → List ℕ
 site_list [] = []
 site_list (e ∷ es) = e.site ∷ site_list es
@@ -38,25 +39,28 @@ EndsAs e (waits q) = e ≡ over (waits q)
 EndsAs e spent = e ≡ unfinished
 
 -- a log notes what a meaning noted
-pub record Noted (ns : List Run.Note) (log : List Note) : Type 0 where
+pub record Noted (ns : List Run.Note) (log : List Event) : Type 0 where
   pub happened : happenings log ≡ Run.happenings ns
   pub entered : sites log ≡ site_list (Run.entries ns)
   pub tails : KeepsTails (Run.entries ns) (entries log)
   pub looked : LeavesOut (Run.looks ns) (serials log)
 
-pub record Reaches (r : Ran) (e : Meant) : Type 0 where
+-- a run notes what a meaning noted, and ends as it did
+pub record RanAsMeant (r : Ran) (e : Meant) : Type 0 where
   pub noted : Noted e.notes r.log
   pub end : EndsAs r.end e.end
 
+-- one list ends the other; of lists with the latest first, the shorter one came first
 abbrev pub IsSuffix : List Happening → List Happening → Type 0
 IsSuffix xs ys = (later : List Happening) × (ys ≡ later ++ xs)
 
+-- how many functions a run entered
 abbrev pub bound_of : Ran → ℕ
 bound_of r = length (sites r.log)
 
 -- run k: the run with k steps; eval n: the meaning with at most n entries
-pub record Follows (run : ℕ → Ran) (eval : ℕ → Meant) : Type 0 where
-  pub reaches : (n : ℕ) → (k : ℕ) × Reaches (run k) (eval n)
+pub record BothWays (run : ℕ → Ran) (eval : ℕ → Meant) : Type 0 where
+  pub reaches : (n : ℕ) → (k : ℕ) × RanAsMeant (run k) (eval n)
   pub within : (k : ℕ) →
       IsSuffix (happenings (run k).log) (Run.happenings (eval (bound_of (run k))).notes)
       × (sites (run k).log ≡ site_list (Run.entries (eval (bound_of (run k))).notes))
@@ -69,13 +73,14 @@ abbrev pub Next : (ℕ → Ran) → ℕ → Outcome Term → Type 0
 Next run k spent = (n : ℕ) × (sites (run (suc k)).log ≡ n ∷ sites (run k).log)
 Next run k _ = Unit {0}
 
+-- a run comes to each meaning
 pub record OneWay (run : ℕ → Ran) (eval : ℕ → Meant) : Type 0 where
-  pub reaches : (n : ℕ) → (k : ℕ) × Reaches (run k) (eval n) × Next run k (eval n).end
+  pub reaches : (n : ℕ) → (k : ℕ) × RanAsMeant (run k) (eval n) × Next run k (eval n).end
   -- the meaning keeps its bound, and meets it where it is spent
   pub bounded : (n : ℕ) → length (site_list (Run.entries (eval n).notes)) ≤ n
   pub met : (n : ℕ) → (eval n).end ≡ spent → length (site_list (Run.entries (eval n).notes)) ≡ n
 
 -- one direction suffices
 abbrev pub OneWaySuffices : Type 0 → Type 0
-OneWaySuffices S = (step : S → Stepped S) (m : S) (rs : List Reply) (log : List Note) (eval : ℕ → Meant) →
-    OneWay (λ k. Steps.run step k m rs log) eval → Follows (λ k. Steps.run step k m rs log) eval
+OneWaySuffices S = (step : S → Stepped S) (m : S) (rs : List Reply) (log : List Event) (eval : ℕ → Meant) →
+    OneWay (λ k. Steps.run step k m rs log) eval → BothWays (λ k. Steps.run step k m rs log) eval

@@ -22,12 +22,14 @@ abbrev pub RiseFrom : ℕ → List Message → ℕ → Type 0
 RiseFrom n [] next = n ≤ next
 RiseFrom n (m ∷ ms) next = (n ≤ m.serial) × RiseFrom (m.serial + 1) ms next
 
+-- the serials of the mailbox rise, below the next one
 abbrev pub SerialsRise : State → Type 0
 SerialsRise s = RiseFrom 0 s.mailbox s.next
 
 -- what is taken out of this mailbox by its serial is one message alone
 abbrev pub TakesOneOut : List Message → Type 0
-TakesOneOut ms = (passed later : List Message) (m : Message) → ms ≡ passed ++ m ∷ later → without m.serial ms ≡ passed ++ later
+TakesOneOut ms =
+    (passed later : List Message) (m : Message) → ms ≡ passed ++ m ∷ later → without m.serial ms ≡ passed ++ later
 
 module _ {A : Type 0} (pick : Term → Tried A) where
   -- no clause accepts any of these messages
@@ -37,13 +39,16 @@ module _ {A : Type 0} (pick : Term → Tried A) where
   -- what is noted of messages that are passed over
   abbrev pub passing : List Message → List Note → List Note
   passing [] ns = ns
-  passing (m ∷ ms) ns = passing ms (looked (record { serial = m.serial; accepted = false }) ∷ cut (pick m.term).cuts ∷ ns)
+  passing (m ∷ ms) ns =
+      passing ms (looked (record { serial = m.serial; accepted = false }) ∷ cut (pick m.term).cuts ∷ ns)
 
   -- the state once a message is taken behind those that are passed over
   abbrev pub taking_behind : List Message → Message → State → State
   taking_behind passed m s = record s {
     mailbox = without m.serial s.mailbox;
-    notes = happened (taken m.serial) ∷ looked (record { serial = m.serial; accepted = true }) ∷ cut (pick m.term).cuts ∷ passing passed s.notes;
+    notes =
+        happened (taken m.serial) ∷ looked (record { serial = m.serial; accepted = true })
+        ∷ cut (pick m.term).cuts ∷ passing passed s.notes;
   }
 
 -- a receive takes the first message in mailbox order that a clause accepts
@@ -57,4 +62,5 @@ TakesFirst pick timeout late =
 abbrev pub LooksForMore : (Term → Tried Values) → Timeout → M Values → Type 0
 LooksForMore pick timeout late =
     (s : State) → AllRejected pick s.mailbox
-    → receiving pick timeout late s ≡ looking pick timeout late s.replies (record s { notes = passing pick s.mailbox s.notes })
+    → receiving pick timeout late s
+    ≡ looking pick timeout late s.replies (record s { notes = passing pick s.mailbox s.notes })

@@ -7,11 +7,13 @@ use Rattle.erl_term.specs.Terms.{Values, tagged, value_at, is_there, put}
 use Rattle.world_model.specs.Run.{M, fail}
 use Rattle.world_model.specs.Meaning.{single}
 
+-- a pair that is put into a map; an exact one replaces the value of a key that is there
 pub record Put : Type 0 where
   pub key : Term
   pub value : Term
   pub exact : Bool
 
+-- pairs are put from left to right; the first exact one without its key raises badkey
 unfoldable pub put_each : List Put → Pairs → M Values
 unfolding put same_term
 put_each [] ps = single (T.map ps)
@@ -20,6 +22,7 @@ put_each (q ∷ qs) ps =
     then fail T.error (tagged (codes "badkey") q.key)
     else put_each qs (put q.key q.value ps)
 
+-- only a map takes pairs
 unfoldable pub put_all : List Put → Term → M Values
 unfolding put_each
 put_all qs (T.map ps) = put_each qs ps

@@ -8,27 +8,36 @@ use Rattle.world_model.specs.World as W
 use Rattle.world_model.specs.World.{Delay, forever, millis, Reply, Message, taken}
 use Rattle.world_model.specs.Run.{happened, looked, cut, noting, waits, M, fail, numbered, answered}
 
+-- what a receive does with its timeout: goes on at once, waits so long, or raises
 pub data Timeout : Type 0 where
   now : Timeout
   in' : Delay → Timeout
   wrong : Timeout
 
+-- the longest delay in milliseconds
+abbrev pub most_millis : ℕ
+most_millis = 4294967295
+
+-- 0, a number of milliseconds that fits 32 bits, or 'infinity'; nothing else is a timeout
 abbrev pub timeout_of : Term → Timeout
 timeout_of (T.int (pos zero)) = now
-timeout_of (T.int (pos (suc n))) = if leb (suc n) 4294967295 then in' (millis (suc n)) else wrong
+timeout_of (T.int (pos (suc n))) = if leb (suc n) most_millis then in' (millis (suc n)) else wrong
 timeout_of (T.atom a) = if same_name a (codes "infinity") then in' forever else wrong
 timeout_of t = wrong
 
+-- a mailbox without the message with this serial
 abbrev pub without : ℕ → List Message → List Message
 without n [] = []
 without n (m ∷ ms) = if eqb n m.serial then ms else m ∷ without n ms
 
+-- the message is taken, and the body goes on
 abbrev pub take_message : {A : Type 0} → Message → M A → M A
 take_message m body = λ s. body (record s {
   mailbox = without m.serial s.mailbox;
   notes = happened (taken m.serial) ∷ looked (record { serial = m.serial; accepted = true }) ∷ s.notes;
 })
 
+-- the message is looked at and stays
 abbrev pub pass_over : {A : Type 0} → Message → M A → M A
 pass_over m rest = λ s. rest (noting (looked (record { serial = m.serial; accepted = false })) s)
 
@@ -38,6 +47,7 @@ pub record Tried (A : Type 0) : Type 0 where
   pub cuts : ℕ
   pub body : Option (M A)
 
+-- notes that trying may have made n sub-binaries
 abbrev pub cutting : {A : Type 0} → ℕ → M A → M A
 cutting n m = λ s. m (noting (cut n) s)
 
@@ -46,6 +56,7 @@ abbrev pub new_or : {A : Type 0} → List Term → A → A → A
 new_or [] a b = a
 new_or (t ∷ ts) a b = b
 
+-- takes the message with the body that accepts it, or passes it over
 abbrev pub taking : {A : Type 0} → Message → Option (M A) → M A → M A
 taking m None rest = pass_over m rest
 taking m (Some body) rest = take_message m body
@@ -77,5 +88,6 @@ module _ {A : Type 0} (pick : Term → Tried A) where
           (try_each (numbered s.next r.arrivals) (looking rs))
           (answered (W.wait d) r rs s)
 
+-- a receive tries the messages of the mailbox, the oldest first, and then looks for more
 abbrev pub receiving : {A : Type 0} → (Term → Tried A) → Timeout → M A → M A
 receiving pick timeout late = λ s. try_each pick s.mailbox (λ u. looking pick timeout late u.replies u) s

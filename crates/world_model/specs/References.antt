@@ -1,5 +1,5 @@
--- Which references are bound to which serials along a run, and which messages its receives may pass over (this project's
--- own, after Erlang/OTP 25's receive markers).
+-- Which references are bound to which serials along a run, and which messages its receives may pass over (this
+-- project's own, after Erlang/OTP 25's receive markers).
 use Rattle.std.specs.Prelude.{ℕ, suc, List, [], ◌∷◌, Bool, true, false, leb, Option, Some, None, if◌then◌else◌}
 use Rattle.erl_term.specs.Term.{Term}
 use Rattle.erl_term.specs.TermOrder.{same_term}
@@ -59,6 +59,6 @@ standing cs [] = record { bound = []; choices = cs; low = 0 }
 standing cs (n ∷ ns) = after_note n (standing cs ns)
 
 -- how many messages stand before the first one with at least this serial
-abbrev pub place_of : ℕ → List Message → ℕ
-place_of n [] = 0
-place_of n (m ∷ ms) = if leb n m.serial then 0 else suc (place_of n ms)
+abbrev pub save_place : ℕ → List Message → ℕ
+save_place n [] = 0
+save_place n (m ∷ ms) = if leb n m.serial then 0 else suc (save_place n ms)

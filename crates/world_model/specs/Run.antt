@@ -3,10 +3,12 @@ use Rattle.std.specs.Prelude.{ℕ, ◌+◌, List, [], ◌∷◌, ◌++◌, Bool,
 use Rattle.erl_term.specs.Term.{Term, Class}
 use Rattle.world_model.specs.World.{Request, Reply, Message, Happening, asked}
 
+-- the function that a call entered, by its site, and whether it was a tail call by name
 pub record Entry : Type 0 where
   pub site : ℕ
   pub tail : Bool
 
+-- a message that a receive looked at, by its serial, and whether a clause accepted it
 pub record Looked : Type 0 where
   pub serial : ℕ
   pub accepted : Bool
@@ -37,24 +39,29 @@ pub record State : Type 0 where
   pub left : ℕ
   pub notes : List Note
 
+-- with a note more
 abbrev pub noting : Note → State → State
 noting n s = record s { notes = n ∷ s.notes }
 
+-- what happened
 abbrev pub happenings : List Note → List Happening
 happenings [] = []
 happenings (happened h ∷ ns) = h ∷ happenings ns
 happenings (_ ∷ ns) = happenings ns
 
+-- the functions that were entered
 abbrev pub entries : List Note → List Entry
 entries [] = []
 entries (entered e ∷ ns) = e ∷ entries ns
 entries (_ ∷ ns) = entries ns
 
+-- the messages that were looked at
 abbrev pub looks : List Note → List Looked
 looks [] = []
 looks (looked l ∷ ns) = l ∷ looks ns
 looks (_ ∷ ns) = looks ns
 
+-- the references that marking calls returned
 abbrev pub marks : List Note → List Marked
 marks [] = []
 marks (marked x ∷ ns) = x ∷ marks ns
@@ -66,6 +73,7 @@ sub_binaries [] = 0
 sub_binaries (cut n ∷ ns) = n + sub_binaries ns
 sub_binaries (_ ∷ ns) = sub_binaries ns
 
+-- how a meaning ends: with a value, a raise, a request that finds no reply, or no entry left
 pub data Outcome (A : Type 0) : Type 0 where
   gives : A → Outcome A
   raises : Class → Term → Outcome A
@@ -76,22 +84,27 @@ pub data Outcome (A : Type 0) : Type 0 where
 abbrev pub M : Type 0 → Type 0
 M A = State → State × Outcome A
 
+-- an outcome, and what is done with what it gives
 abbrev pub after : {A B : Type 0} → State → Outcome A → (A → M B) → State × Outcome B
 after s (gives a) f = f a s
 after s (raises c r) f = (s, raises c r)
 after s (waits q) f = (s, waits q)
 after s spent f = (s, spent)
 
+-- the same, of a state with an outcome
 abbrev pub going_on : {A B : Type 0} → State × Outcome A → (A → M B) → State × Outcome B
 going_on r f = after r.0 r.1 f
 
 infixl 15 ◌>>=◌
+-- one meaning after the other
 abbrev pub ◌>>=◌ : {A B : Type 0} → M A → (A → M B) → M B
 m >>= f = λ s. going_on (m s) f
 
+-- gives a value, and changes nothing
 abbrev pub give : {A : Type 0} → A → M A
 give a = λ s. (s, gives a)
 
+-- raises, and changes nothing
 abbrev pub fail : {A : Type 0} → Class → Term → M A
 fail c r = λ s. (s, raises c r)
 
@@ -109,9 +122,11 @@ answered q r rs s = record s {
   notes = happened (asked q r) ∷ s.notes;
 }
 
+-- a request where these replies are left
 abbrev pub ask_from : Request → List Reply → State → State × Outcome Reply
 ask_from q [] s = (s, waits q)
 ask_from q (r ∷ rs) s = (answered q r rs s, gives r)
 
+-- asks the world, and gives its reply
 abbrev pub ask : Request → M Reply
 ask q = λ s. ask_from q s.replies s

@@ -1,5 +1,5 @@
 use Rattle.step_machine.specs.Steps.{run}
-use Rattle.step_machine.proofs.OneWay.{both_ways, run_once}
+use Rattle.step_machine.proofs.OneWayLaws.{both_ways, run_once}
 use Rattle.step_machine.proofs.laws.one_direction_suffices.Goals as goal
 
 pub returns : goal.returns

@@ -4,11 +4,11 @@ use Rattle.erl_term.specs.Term.{Term}
 use Rattle.world_model.specs.Run as Run
 use Rattle.world_model.specs.Run.{Entry, Outcome, gives, raises, waits, spent}
 use Rattle.world_model.specs.World.{Reply, asked}
-use Rattle.step_machine.specs.Follows.{Meant, EndsAs, IsSuffix, Follows, Next, OneWay, site_list}
+use Rattle.step_machine.specs.Follows.{Meant, EndsAs, IsSuffix, BothWays, Next, OneWay, site_list}
 use Rattle.step_machine.specs.RunFacts.{Later}
-use Rattle.step_machine.specs.Steps.{Note, happened, entered, Stepped, goes, ends, bad, notes, asks, End, over, unfinished, is_bad, Ran, perform, run, happenings, sites}
+use Rattle.step_machine.specs.Steps.{Event, happened, entered, Stepped, goes, ends, bad, notes, asks, End, over, unfinished, is_bad, Ran, perform, run, happenings, sites}
 
-later_trans : (a b c : List Note) → Later a b → Later b c → Later a c
+later_trans : (a b c : List Event) → Later a b → Later b c → Later a c
 later_trans a b c (f, p) (g, q) = (g ++ f, q ∙ ap (λ l. g ++ l) p ∙ sym (append_assoc g f a))
 
 -- the second run is the first, or goes on from it
@@ -22,7 +22,7 @@ once_trans a b c (inr p) (inl q) = inr (subst (λ r. (a.end ≡ unfinished) × L
 once_trans a b c (inr p) (inr q) = inr (p.0, later_trans a.log b.log c.log p.1 q.1)
 
 module _ {S : Type 0} (step : S → Stepped S) where
-  pub perform_grows : (s : Stepped S) (f : S → List Reply → List Note → Ran) → ((m : S) (rs : List Reply) (log : List Note) → Later log (f m rs log).log) → (rs : List Reply) (log : List Note) → Later log (perform s f rs log).log
+  pub perform_grows : (s : Stepped S) (f : S → List Reply → List Event → Ran) → ((m : S) (rs : List Reply) (log : List Event) → Later log (f m rs log).log) → (rs : List Reply) (log : List Event) → Later log (perform s f rs log).log
   perform_grows (goes m) f h rs log = h m rs log
   perform_grows (ends o) f h rs log = ([], refl)
   perform_grows bad f h rs log = ([], refl)
@@ -30,7 +30,7 @@ module _ {S : Type 0} (step : S → Stepped S) where
   perform_grows (asks q a) f h [] log = ([], refl)
   perform_grows (asks q a) f h (r ∷ rs) log = later_trans log _ _ (happened (asked q r) ∷ [], refl) (perform_grows (a r) f h rs _)
 
-  perform_once : (s : Stepped S) (f g : S → List Reply → List Note → Ran) → ((m : S) (rs : List Reply) (log : List Note) → Once (f m rs log) (g m rs log)) → (rs : List Reply) (log : List Note) → Once (perform s f rs log) (perform s g rs log)
+  perform_once : (s : Stepped S) (f g : S → List Reply → List Event → Ran) → ((m : S) (rs : List Reply) (log : List Event) → Once (f m rs log) (g m rs log)) → (rs : List Reply) (log : List Event) → Once (perform s f rs log) (perform s g rs log)
   perform_once (goes m) f g h rs log = h m rs log
   perform_once (ends o) f g h rs log = inl refl
   perform_once bad f g h rs log = inl refl
@@ -38,7 +38,7 @@ module _ {S : Type 0} (step : S → Stepped S) where
   perform_once (asks q a) f g h [] log = inl refl
   perform_once (asks q a) f g h (r ∷ rs) log = perform_once (a r) f g h rs _
 
-  pub run_once : (k : ℕ) (m : S) (rs : List Reply) (log : List Note) → Once (run step k m rs log) (run step (suc k) m rs log)
+  pub run_once : (k : ℕ) (m : S) (rs : List Reply) (log : List Event) → Once (run step k m rs log) (run step (suc k) m rs log)
   unfolding run
   run_once zero m rs log = inr (refl, perform_grows (step m) (run step zero) (λ n ss l. ([], refl)) rs log)
   run_once (suc k) m rs log = perform_once (step m) (run step k) (run step (suc k)) (run_once k) rs log
@@ -47,12 +47,12 @@ no_front : (f l : List ℕ) (n : ℕ) → length (f ++ l) ≤ n → length l ≡
 no_front [] l n h e = refl
 no_front (x ∷ f) l n h e = absurd (omega (arith, length-append f l, h, e))
 
-pub happenings-append : (a b : List Note) → happenings (a ++ b) ≡ happenings a ++ happenings b
+pub happenings-append : (a b : List Event) → happenings (a ++ b) ≡ happenings a ++ happenings b
 happenings-append [] b = refl
 happenings-append (happened h ∷ a) b = ap (λ l. h ∷ l) (happenings-append a b)
 happenings-append (_ ∷ a) b = happenings-append a b
 
-pub sites-append : (a b : List Note) → sites (a ++ b) ≡ sites a ++ sites b
+pub sites-append : (a b : List Event) → sites (a ++ b) ≡ sites a ++ sites b
 sites-append [] b = refl
 sites-append (entered e ∷ a) b = ap (λ l. e.site ∷ l) (sites-append a b)
 sites-append (_ ∷ a) b = sites-append a b
@@ -148,7 +148,7 @@ module _ (R : ℕ → Ran) (E : ℕ → Meant) (once : (k : ℕ) → Once (R k) 
   never_of k (inl e) q = bad_end _ _ (way.reaches (count k)).1.end (ap (λ r. r.end) e ∙ q)
   never_of k (inr h) q = let d : unfinished ≡ is_bad = sym h.0 ∙ q in cc
 
-  pub both_ways : Follows R E
+  pub both_ways : BothWays R E
   unfolding at count meant
   both_ways = record {
     reaches = λ n. let w = way.reaches n in (w.0, w.1);

@@ -5,9 +5,9 @@ use Rattle.world_model.specs.Run as Run
 use Rattle.world_model.specs.Run.{Entry, Looked, Marked}
 use Rattle.world_model.specs.World.{Happening}
 use Rattle.step_machine.specs.Follows.{Noted, LeavesOut}
-use Rattle.step_machine.specs.Steps.{Note, happened, entered, examined, sub_binary, serials}
+use Rattle.step_machine.specs.Steps.{Event, happened, entered, examined, sub_binary, serials}
 
-module _ (ns : List Run.Note) (log : List Note) (h : Noted ns log) where
+module _ (ns : List Run.Note) (log : List Event) (h : Noted ns log) where
   -- a request with its reply, or a message that is taken
   pub notes_happening : (x : Happening) → Noted (Run.happened x ∷ ns) (happened x ∷ log)
   notes_happening x = record { happened = ap (λ l. x ∷ l) h.happened; entered = h.entered; tails = h.tails; looked = h.looked }
