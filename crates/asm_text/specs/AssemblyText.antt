@@ -14,17 +14,21 @@ use Rattle.beam_table.specs.ValidModule.{every, Valid}
 
 -- Forms.
 
+-- a form on a line
 abbrev pub line_on : List ℕ → Term → List ℕ → List ℕ
 line_on indent t r = indent ++ term_on t (codes ".\n" ++ r)
 
+-- an instruction
 abbrev pub insn_on : Insn → List ℕ → List ℕ
 insn_on (C.label l) r = line_on (codes "  ") (form (C.label l)) r
 insn_on i r = line_on (codes "    ") (form i) r
 
+-- instructions in a row
 abbrev pub code_on : List Insn → List ℕ → List ℕ
 code_on [] r = r
 code_on (i ∷ is) r = insn_on i (code_on is r)
 
+-- a function's head
 abbrev pub head_on : Name → AsmFun → List ℕ → List ℕ
 head_on m f r =
     codes "\n" ++ line_on [] (function_form f)
@@ -32,10 +36,12 @@ head_on m f r =
     (line_on (codes "    ") (func_info_form m f.key)
     (insn_on (C.label f.entry) r)))
 
+-- all functions
 abbrev pub funs_on : Name → List AsmFun → List ℕ → List ℕ
 funs_on m [] r = r
 funs_on m (f ∷ fs) r = head_on m f (code_on f.code (funs_on m fs r))
 
+-- what comes before the functions
 abbrev pub first_on : AsmModule → List ℕ → List ℕ
 first_on a r =
     line_on [] (module_form a.name)
@@ -49,20 +55,24 @@ printed a = first_on a (funs_on a.name a.funs [])
 
 -- Modules that have a text today. Other instructions and names, and attributes, join as the compiler writes them.
 
+-- operands that are printed today
 abbrev pub source_has_text : Source → Bool
 source_has_text (reg r) = true
 source_has_text (C.atom a) = is_plain_name a
 source_has_text (C.integer z) = true
 source_has_text _ = false
 
+-- instructions that are
 abbrev pub insn_has_text : Insn → Bool
 insn_has_text (move s d) = source_has_text s
 insn_has_text return = true
 insn_has_text _ = false
 
+-- functions that are
 abbrev pub fun_has_text : AsmFun → Bool
 fun_has_text f = is_plain_name f.key.name && every insn_has_text f.code
 
+-- modules that are
 pub record HasText (a : AsmModule) : Type 0 where
   pub name : IsTrue (is_plain_name a.name)
   pub exports : IsTrue (every (λ f. is_plain_name f.name) a.exports)

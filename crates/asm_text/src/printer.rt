@@ -21,8 +21,10 @@ use term_text::{put_atom, put_integer, put_number, put_u32};
 pub fn print(alloc: Global, a: &AsmModule) -> Result<Text, NoMemory>
     requires { HasText (module_view a.now) }
     ensures text { IfOk result (λ text. text ≡ printed (module_view a.now)) }
-    ensures own { IfOk result (λ text. Valid (module_view a.now) → AssemblyText (encode_utf8_all text) (module_view a.now)) }
-    ensures no_other { IfOk result (λ text. (b : Plain) → AssemblyText (encode_utf8_all text) b → b ≡ module_view a.now) }
+    ensures own { IfOk result
+        (λ text. Valid (module_view a.now) → AssemblyText (encode_utf8_all text) (module_view a.now)) }
+    ensures no_other { IfOk result
+        (λ text. (b : Plain) → AssemblyText (encode_utf8_all text) b → b ≡ module_view a.now) }
 {
     let mut out = List::new(alloc);
     put_first(alloc, &mut out, a)?;
@@ -133,7 +135,8 @@ fn put_head(alloc: Global, out: &mut Text, of: &Name, function: &AsmFun) -> Resu
 }
 
 fn put_function(alloc: Global, out: &mut Text, function: &AsmFun) -> Result<(), NoMemory>
-    ensures { OnOk result (Adds out.old out.new (λ r. codes "\n" ++ line_on [] (function_form (fun_view function.now)) r)) }
+    ensures { OnOk result
+        (Adds out.old out.new (λ r. codes "\n" ++ line_on [] (function_form (fun_view function.now)) r)) }
 {
     put_str(out, "\n{function,")?;
     put_atom(alloc, out, &function.key.name)?;

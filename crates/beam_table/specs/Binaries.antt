@@ -18,7 +18,8 @@ is_whole _ = false
 
 -- what a segment says beside its value
 abbrev pub shape : Bool → Source → ℕ → Flags → Shape
-shape binary size unit fs = record { unit = unit; is_binary = binary; signed = fs.signed; little = fs.little; whole = is_whole size }
+shape binary size unit fs =
+    record { unit = unit; is_binary = binary; signed = fs.signed; little = fs.little; whole = is_whole size }
 
 -- of a number
 abbrev pub number_shape : ℕ → Flags → Shape
@@ -75,7 +76,8 @@ module _ (a : AsmModule) where
   abbrev pub starts : Option ℕ → Cell → Reg → Machine → Effect
   starts l (context n) d m = write m d (context n) goes
   starts l (term (T.bits bs)) d m =
-      write m d (context (length m.contexts)) λ u. goes (record u { contexts = u.contexts ++ record { bits = bs; at = 0 } ∷ [] })
+      write m d (context (length m.contexts)) λ u.
+      goes (record u { contexts = u.contexts ++ record { bits = bs; at = 0 } ∷ [] })
   starts l (term t) d m = or_no_match l m
   starts l _ d m = bad
 

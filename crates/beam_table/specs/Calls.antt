@@ -30,7 +30,8 @@ frame_unless false m a = in_frame m.frame λ ys. a
 module _ (a : AsmModule) where
   -- enters function s with these X registers and nothing else
   abbrev pub enters : Bool → ℕ → AsmFun → List Cell → Machine → Effect
-  enters tail s f cs m = notes (entered (record { site = s; tail = tail })) (goes (record m { xs = cs; frame = None; code = f.code }))
+  enters tail s f cs m =
+      notes (entered (record { site = s; tail = tail })) (goes (record m { xs = cs; frame = None; code = f.code }))
 
   -- the function of arity n with this entry, and its number
   abbrev pub function_at : ℕ → ℕ → (ℕ → AsmFun → Effect) → Effect
@@ -38,7 +39,8 @@ module _ (a : AsmModule) where
 
   -- {call,A,L}: needs a frame, leaves, and enters the function of arity A at L in a new activation
   abbrev pub do_call : ℕ → ℕ → Machine → Effect
-  do_call n l m = in_frame m.frame λ ys. leaves n m λ u. function_at l n λ s f. enters false s f (take n u.xs) (suspended u)
+  do_call n l m =
+      in_frame m.frame λ ys. leaves n m λ u. function_at l n λ s f. enters false s f (take n u.xs) (suspended u)
 
   -- {call_only,A,L}: needs no frame; the same in place of this activation
   abbrev pub do_call_only : ℕ → ℕ → Machine → Effect
@@ -120,7 +122,9 @@ module _ (a : AsmModule) where
 
   -- send: needs a frame, leaves, and sends x1 to x0; the message is alone in x0
   abbrev pub do_send : Machine → Effect
-  do_send m = in_frame m.frame λ ys. leaves 2 m λ u. read u (reg (x_reg 0)) λ to. read u (reg (x_reg 1)) λ message. sends to message u alone
+  do_send m =
+      in_frame m.frame λ ys. leaves 2 m λ u. read u (reg (x_reg 0)) λ to. read u (reg (x_reg 1)) λ message.
+      sends to message u alone
 
   -- Funs.
 
@@ -162,7 +166,8 @@ module _ (a : AsmModule) where
 
   -- {call_fun,A}: needs a frame; the fun is in x(A), and terms are in x0 to x(A)
   abbrev pub do_call_fun : ℕ → Machine → Effect
-  do_call_fun n m = in_frame m.frame λ ys. leaves (suc n) m λ u. arguments n u.xs λ ts. read u (reg (x_reg n)) λ t. applies t ts u
+  do_call_fun n m =
+      in_frame m.frame λ ys. leaves (suc n) m λ u. arguments n u.xs λ ts. read u (reg (x_reg n)) λ t. applies t ts u
 
   -- a call by name with the first n X registers, which are looked at only where both names are atoms
   unfoldable pub calls_named : Term → Term → ℕ → Machine → (Term → Machine → Effect) → Effect
@@ -173,4 +178,5 @@ module _ (a : AsmModule) where
   -- {apply,A}, {apply_last,A,N}: the module is in x(A), the function in x(A+1)
   unfoldable pub do_apply : ℕ → Machine → (Term → Machine → Effect) → Effect
   unfolding calls_named
-  do_apply n m k = leaves (suc (suc n)) m λ u. read u (reg (x_reg n)) λ f. read u (reg (x_reg (suc n))) λ g. calls_named f g n u k
+  do_apply n m k =
+      leaves (suc (suc n)) m λ u. read u (reg (x_reg n)) λ f. read u (reg (x_reg (suc n))) λ g. calls_named f g n u k

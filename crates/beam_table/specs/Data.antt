@@ -41,7 +41,9 @@ do_allocate n w live m =
 
 -- drops a frame of n slots without a tag
 abbrev pub drops : ℕ → Machine → (Machine → Effect) → Effect
-drops n m k = outside_window m (in_frame m.frame λ ys. needs (eqb (length ys) n && no_tags tag_in ys) (k (record m { frame = None })))
+drops n m k =
+    outside_window m
+    (in_frame m.frame λ ys. needs (eqb (length ys) n && no_tags tag_in ys) (k (record m { frame = None })))
 
 -- {trim,N,R}: of N + R slots the lowest N, which hold no tag, go; the others move down
 abbrev pub do_trim : ℕ → ℕ → Machine → Effect

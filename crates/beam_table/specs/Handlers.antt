@@ -14,7 +14,8 @@ use Rattle.beam_table.specs.GeneralRules.{Effect, needs, tag_in, with_cell, in_f
 -- {'try',Y,L}, {'catch',Y,L}: no tag stands in Y or below it; Y gets a tag with L
 abbrev pub do_tag : Kind → ℕ → ℕ → Machine → Effect
 do_tag k n l m = outside_window m (in_frame m.frame λ ys.
-    needs (ltb n (length ys) && no_tags tag_in (take (suc n) ys)) (goes (record m { frame = Some (with_cell n (tag k l) ys) })))
+    needs (ltb n (length ys) && no_tags tag_in (take (suc n) ys))
+    (goes (record m { frame = Some (with_cell n (tag k l) ys) })))
 
 -- a tag is wanted
 abbrev pub if_tag : Cell → (Kind → Effect) → Effect

@@ -16,8 +16,8 @@ use Rattle.beam_table.specs.Tests.{do_has_fields, do_test, do_compare, do_test_a
 module _ (a : AsmModule) where
   -- what each instruction does; its code goes on behind it but where it jumps
   unfoldable pub act : Insn → Machine → Effect
-  unfolding do_put_map do_get_elements do_has_fields do_compare do_select do_bif do_gc_bif do_call_ext do_call_ext_only do_apply do_bind do_use
-      do_clear
+  unfolding do_put_map do_get_elements do_has_fields do_compare do_select do_bif do_gc_bif do_call_ext
+      do_call_ext_only do_apply do_bind do_use do_clear
   act (label l) m = bad
   act (func_info f) m = raising a T.error (word (codes "function_clause")) m
   act (move s d) m = do_move s d m

@@ -31,7 +31,9 @@ source_term (C.literal t) = tagged (codes "literal") t
 
 -- both are written, in this order
 abbrev pub flag_words : Flags → List Term
-flag_words f = (if f.signed then T.atom (codes "signed") else T.atom (codes "unsigned")) ∷ (if f.little then T.atom (codes "little") else T.atom (codes "big")) ∷ []
+flag_words f =
+    (if f.signed then T.atom (codes "signed") else T.atom (codes "unsigned"))
+    ∷ (if f.little then T.atom (codes "little") else T.atom (codes "big")) ∷ []
 
 abbrev mutual
   pub operand_term : Operand → Term
@@ -54,7 +56,8 @@ abbrev mutual
   operand_term (always n) = number_term n
   operand_term (word a) = T.atom a
   operand_term (atom_operand a) = tagged (codes "atom") (T.atom a)
-  operand_term (extfunc e) = T.tuple (terms (T.atom (codes "extfunc") ∷ T.atom e.mod_name ∷ T.atom e.name ∷ number_term e.arity ∷ []))
+  operand_term (extfunc e) =
+      T.tuple (terms (T.atom (codes "extfunc") ∷ T.atom e.mod_name ∷ T.atom e.name ∷ number_term e.arity ∷ []))
   operand_term (field_flags f) = tagged (codes "field_flags") (list_of (flag_words f) T.nil)
   operand_term (flag_list f) = tagged (codes "literal") (list_of (flag_words f) T.nil)
   operand_term (items os) = list_of (operand_terms os) T.nil

@@ -45,12 +45,14 @@ labels_form fs = tagged (codes "labels") (number_term (greatest (all_labels fs) 
 
 -- {function,F,A,Entry}
 abbrev pub function_form : AsmFun → Term
-function_form f = tuple_of (T.atom (codes "function") ∷ T.atom f.key.name ∷ number_term f.key.arity ∷ number_term f.entry ∷ [])
+function_form f =
+    tuple_of (T.atom (codes "function") ∷ T.atom f.key.name ∷ number_term f.key.arity ∷ number_term f.entry ∷ [])
 
 -- {func_info,{atom,M},{atom,F},A}
 abbrev pub func_info_form : Name → FunKey → Term
 func_info_form m f =
-    tuple_of (T.atom (codes "func_info") ∷ source_term (C.atom m) ∷ source_term (C.atom f.name) ∷ number_term f.arity ∷ [])
+    tuple_of (T.atom (codes "func_info") ∷ source_term (C.atom m) ∷ source_term (C.atom f.name) ∷ number_term f.arity
+    ∷ [])
 
 -- a function's head, and its code
 abbrev pub function_forms : Name → AsmFun → List Term

@@ -12,7 +12,8 @@ use Rattle.beam_table.specs.declared.opcode.Opcode.TheVariants as O
 use Rattle.beam_table.specs.Operands as P
 use Rattle.beam_table.specs.Operands.{Operand, Operands, end, ◌then◌}
 
--- what the table says of an opcode: its name in the text, whether that stands behind `test`, and the operands that follow
+-- what the table says of an opcode: its name in the text, whether that stands behind `test`, and the operands that
+-- follow
 pub record OpcodeRow : Type 0 where
   pub name : Name
   pub is_test : Bool
@@ -41,8 +42,10 @@ opcode_row O.Return = plain_row (codes "return") []
 opcode_row O.PutList = plain_row (codes "put_list") (K.Source ∷ K.Source ∷ K.Register ∷ [])
 opcode_row O.PutTuple2 = plain_row (codes "put_tuple2") (K.Register ∷ K.Sources ∷ [])
 opcode_row O.MakeFun3 = plain_row (codes "make_fun3") (K.EntryLabel ∷ K.Site ∷ K.Zero ∷ K.Register ∷ K.Sources ∷ [])
-opcode_row O.PutMapAssoc = plain_row (codes "put_map_assoc") (K.NoLabel ∷ K.Source ∷ K.Register ∷ K.Live ∷ K.PutPairs ∷ [])
-opcode_row O.PutMapExact = plain_row (codes "put_map_exact") (K.NoLabel ∷ K.Source ∷ K.Register ∷ K.Live ∷ K.PutPairs ∷ [])
+opcode_row O.PutMapAssoc =
+    plain_row (codes "put_map_assoc") (K.NoLabel ∷ K.Source ∷ K.Register ∷ K.Live ∷ K.PutPairs ∷ [])
+opcode_row O.PutMapExact =
+    plain_row (codes "put_map_exact") (K.NoLabel ∷ K.Source ∷ K.Register ∷ K.Live ∷ K.PutPairs ∷ [])
 opcode_row O.GetList = plain_row (codes "get_list") (K.Source ∷ K.Register ∷ K.Register ∷ [])
 opcode_row O.GetHd = plain_row (codes "get_hd") (K.Source ∷ K.Register ∷ [])
 opcode_row O.GetTl = plain_row (codes "get_tl") (K.Source ∷ K.Register ∷ [])
@@ -98,7 +101,8 @@ opcode_row O.BsTestUnit = test_row (codes "bs_test_unit") (K.OwnLabel ∷ K.Coun
 opcode_row O.BsGetTail = plain_row (codes "bs_get_tail") (K.Register ∷ K.Register ∷ K.Live ∷ [])
 opcode_row O.BsGetPosition = plain_row (codes "bs_get_position") (K.Register ∷ K.Register ∷ K.Live ∷ [])
 opcode_row O.BsSetPosition = plain_row (codes "bs_set_position") (K.Register ∷ K.Register ∷ [])
-opcode_row O.BsCreateBin = plain_row (codes "bs_create_bin") (K.LabelOrZero ∷ K.Zero ∷ K.Live ∷ K.Amount ∷ K.Register ∷ K.Segments ∷ [])
+opcode_row O.BsCreateBin =
+    plain_row (codes "bs_create_bin") (K.LabelOrZero ∷ K.Zero ∷ K.Live ∷ K.Amount ∷ K.Register ∷ K.Segments ∷ [])
 
 -- an instruction's opcode
 abbrev pub opcode_of : Insn → Opcode

@@ -76,8 +76,8 @@ unfoldable mutual
   operands_ok end = true
   operands_ok (o then os) = operand_ok o && operands_ok os
 
--- what no single operand shows: a listed function stands in the instruction of its group, with its arguments; a call has
--- as many arguments as its function
+-- what no single operand shows: a listed function stands in the instruction of its group, with its arguments; a call
+-- has as many arguments as its function
 abbrev pub agrees : Insn → Bool
 agrees (func_info f) = false
 agrees (bif b l ss d) = is_guard b && not (is_collecting b) && eqb (length ss) (arity_of b)

@@ -53,7 +53,9 @@ kind_word false = codes "integer"
 
 -- the six operands of a segment that is built
 abbrev pub segment : Segment → Operands → Operands
-segment g r = atom_operand (kind_word g.is_binary) then amount g.number then unit g.unit then flag_list g.flags then source g.value then source g.size then r
+segment g r =
+    atom_operand (kind_word g.is_binary) then amount g.number then unit g.unit then flag_list g.flags
+    then source g.value then source g.size then r
 
 -- an instruction that the text writes as a test
 abbrev pub tested : Name → Operands → Name × Operands
@@ -61,7 +63,9 @@ tested t r = (codes "test", word t then r)
 
 -- the operands of the two that put pairs into a map
 abbrev pub puts : ℕ → Reg → Source → List (Source × Source) → Operands
-puts k d s ps = no_label then source s then register d then live k then list (each (λ p r. source p.0 then source p.1 then r) ps) then end
+puts k d s ps =
+    no_label then source s then register d then live k then list (each (λ p r. source p.0 then source p.1 then r) ps)
+    then end
 
 -- what is taken from a match context
 abbrev pub field : Reg → Source → ℕ → Flags → Operands
@@ -82,24 +86,47 @@ operands (test_heap w k) = (codes "test_heap", amount w then live k then end)
 operands return = (codes "return", end)
 operands (put_list s r d) = (codes "put_list", source s then source r then register d then end)
 operands (put_tuple2 d ss) = (codes "put_tuple2", register d then list (sources ss) then end)
-operands (make_fun3 l n d ss) = (codes "make_fun3", entry_label l then site n then always 0 then register d then list (sources ss) then end)
+operands (make_fun3 l n d ss) =
+    (codes "make_fun3", entry_label l then site n then always 0 then register d then list (sources ss) then end)
 operands (put_map_assoc s d k ps) = (codes "put_map_assoc", puts k d s ps)
 operands (put_map_exact s d k ps) = (codes "put_map_exact", puts k d s ps)
 operands (get_list s d e) = (codes "get_list", source s then register d then register e then end)
 operands (get_hd s d) = (codes "get_hd", source s then register d then end)
 operands (get_tl s d) = (codes "get_tl", source s then register d then end)
 operands (get_tuple_element s n d) = (codes "get_tuple_element", source s then amount n then register d then end)
-operands (get_map_elements l s ps) = (codes "get_map_elements", own_label l then source s then list (each (λ p r. source p.0 then register p.1 then r) ps) then end)
-operands (has_map_fields l s ss) = tested (codes "has_map_fields") (own_label l then source s then list (sources ss) then end)
+operands (get_map_elements l s ps) = (
+  codes "get_map_elements",
+  own_label l then source s
+      then list (each (λ p r. source p.0 then register p.1 then r) ps) then end,
+)
+operands (has_map_fields l s ss) =
+    tested (codes "has_map_fields") (own_label l then source s then list (sources ss) then end)
 operands (jump l) = (codes "jump", own_label l then end)
 operands (test t l s) = tested (type_name t) (own_label l then items (source s then end) then end)
-operands (compares t l r s) = tested (comparison_name t) (own_label l then items (source r then source s then end) then end)
-operands (test_arity l s n) = tested (codes "test_arity") (own_label l then items (source s then amount n then end) then end)
-operands (is_tagged_tuple l s n a) = tested (codes "is_tagged_tuple") (own_label l then items (source s then amount n then atom_operand a then end) then end)
-operands (select_val s l cs) = (codes "select_val", source s then own_label l then list (each (λ c r. source c.0 then own_label c.1 then r) cs) then end)
-operands (select_tuple_arity s l cs) = (codes "select_tuple_arity", source s then own_label l then list (each (λ c r. amount c.0 then own_label c.1 then r) cs) then end)
-operands (bif b l ss d) = (codes "bif", word (bif_name b) then label_or_zero l then items (sources ss) then register d then end)
-operands (gc_bif b l k ss d) = (codes "gc_bif", word (bif_name b) then label_or_zero l then live k then items (sources ss) then register d then end)
+operands (compares t l r s) =
+    tested (comparison_name t) (own_label l then items (source r then source s then end) then end)
+operands (test_arity l s n) =
+    tested (codes "test_arity") (own_label l then items (source s then amount n then end) then end)
+operands (is_tagged_tuple l s n a) =
+    tested (codes "is_tagged_tuple")
+    (own_label l then items (source s then amount n then atom_operand a then end) then end)
+operands (select_val s l cs) = (
+  codes "select_val",
+  source s then own_label l then list (each (λ c r. source c.0 then own_label c.1 then r) cs)
+      then end,
+)
+operands (select_tuple_arity s l cs) = (
+  codes "select_tuple_arity",
+  source s then own_label l
+      then list (each (λ c r. amount c.0 then own_label c.1 then r) cs) then end,
+)
+operands (bif b l ss d) =
+    (codes "bif", word (bif_name b) then label_or_zero l then items (sources ss) then register d then end)
+operands (gc_bif b l k ss d) = (
+  codes "gc_bif",
+  word (bif_name b) then label_or_zero l then live k then items (sources ss) then register d
+      then end,
+)
 operands (call n l) = (codes "call", arity n then entry_label l then end)
 operands (call_only n l) = (codes "call_only", arity n then entry_label l then end)
 operands (call_last n l k) = (codes "call_last", arity n then entry_label l then amount k then end)
@@ -131,13 +158,22 @@ operands (recv_marker_reserve d) = (codes "recv_marker_reserve", register d then
 operands (recv_marker_bind d s) = (codes "recv_marker_bind", register d then source s then end)
 operands (recv_marker_use s) = (codes "recv_marker_use", source s then end)
 operands (recv_marker_clear s) = (codes "recv_marker_clear", source s then end)
-operands (bs_start_match4 l k s d) = (codes "bs_start_match4", label_or_no_fail l then live k then source s then register d then end)
-operands (bs_get_integer2 l k c s u f d) = tested (codes "bs_get_integer2") (own_label l then live k then items (field c s u f) then register d then end)
-operands (bs_get_binary2 l k c s u f d) = tested (codes "bs_get_binary2") (own_label l then live k then items (field c s u f) then register d then end)
+operands (bs_start_match4 l k s d) =
+    (codes "bs_start_match4", label_or_no_fail l then live k then source s then register d then end)
+operands (bs_get_integer2 l k c s u f d) =
+    tested (codes "bs_get_integer2") (own_label l then live k then items (field c s u f) then register d then end)
+operands (bs_get_binary2 l k c s u f d) =
+    tested (codes "bs_get_binary2") (own_label l then live k then items (field c s u f) then register d then end)
 operands (bs_skip_bits2 l c s u f) = tested (codes "bs_skip_bits2") (own_label l then items (field c s u f) then end)
-operands (bs_test_tail2 l c n) = tested (codes "bs_test_tail2") (own_label l then items (register c then amount n then end) then end)
-operands (bs_test_unit l c u) = tested (codes "bs_test_unit") (own_label l then items (register c then amount u then end) then end)
+operands (bs_test_tail2 l c n) =
+    tested (codes "bs_test_tail2") (own_label l then items (register c then amount n then end) then end)
+operands (bs_test_unit l c u) =
+    tested (codes "bs_test_unit") (own_label l then items (register c then amount u then end) then end)
 operands (bs_get_tail c d k) = (codes "bs_get_tail", register c then register d then live k then end)
 operands (bs_get_position c d k) = (codes "bs_get_position", register c then register d then live k then end)
 operands (bs_set_position c p) = (codes "bs_set_position", register c then register p then end)
-operands (bs_create_bin l k u d gs) = (codes "bs_create_bin", label_or_zero l then always 0 then live k then amount u then register d then list (each segment gs) then end)
+operands (bs_create_bin l k u d gs) = (
+  codes "bs_create_bin",
+  label_or_zero l then always 0 then live k then amount u then register d
+      then list (each segment gs) then end,
+)

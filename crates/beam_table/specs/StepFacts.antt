@@ -63,7 +63,10 @@ Untagged (f ∷ fs) = (tag_of f.frame ≡ None) × Untagged fs
 
 -- what a local call does where it is not bad: it enters one function, and goes on there
 abbrev pub EntersOne : Bool → List Activation → Effect → Type 0
-EntersOne tail cs s = (s ≡ bad) ⊎ ((n : ℕ) × (u : Machine) × (s ≡ notes (entered (record { site = n; tail = tail })) (goes u)) × Deeper tail cs u.callers)
+EntersOne tail cs s =
+    (s ≡ bad)
+    ⊎ ((n : ℕ) × (u : Machine) × (s ≡ notes (entered (record { site = n; tail = tail })) (goes u))
+    × Deeper tail cs u.callers)
 
 -- the three local calls note one entry, or are bad
 pub record LocalCallsEnterOne (a : AsmModule) : Type 0 where
@@ -73,12 +76,17 @@ pub record LocalCallsEnterOne (a : AsmModule) : Type 0 where
 
 -- k steps enter at most k functions
 abbrev pub StepsEnterAtMostOne : AsmModule → Type 0
-StepsEnterAtMostOne a = (k : ℕ) (m : Machine) (rs : List Reply) (log : List Event) → length (sites (run (step a) k m rs log).log) ≤ k + length (sites log)
+StepsEnterAtMostOne a =
+    (k : ℕ) (m : Machine) (rs : List Reply) (log : List Event)
+    → length (sites (run (step a) k m rs log).log) ≤ k + length (sites log)
 
 -- a raise drops the activations without a tag up to the first that has one, and goes on at its lowest tag;
 -- without a tag the run ends with it
 pub record RaiseUnwinds (a : AsmModule) : Type 0 where
-  pub past : (c : Class) (r : Term) (m : Machine) (fs gs : List Activation) → Untagged fs → unwinds a (fs ++ gs) c r m ≡ unwinds a gs c r m
-  pub at : (c : Class) (r : Term) (m : Machine) (f : Activation) (fs : List Activation) (t : Kind × ℕ) → tag_of f.frame ≡ Some t →
+  pub past : (c : Class) (r : Term) (m : Machine) (fs gs : List Activation) → Untagged fs
+      → unwinds a (fs ++ gs) c r m ≡ unwinds a gs c r m
+  pub at : (c : Class) (r : Term) (m : Machine) (f : Activation) (fs : List Activation) (t : Kind × ℕ)
+      → tag_of f.frame ≡ Some t →
       unwinds a (f ∷ fs) c r m ≡ lands a t.0 t.1 c r (record m { frame = f.frame; callers = fs })
-  pub out : (c : Class) (r : Term) (m : Machine) (fs : List Activation) → Untagged fs → unwinds a fs c r m ≡ ends (raises c r)
+  pub out : (c : Class) (r : Term) (m : Machine) (fs : List Activation) → Untagged fs
+      → unwinds a fs c r m ≡ ends (raises c r)

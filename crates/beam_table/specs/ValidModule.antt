@@ -50,7 +50,8 @@ names_entries es i = every (λ l. among l es) (entry_labels (operands i).1)
 -- a function among these entries
 unfoldable pub fun_ok : List ℕ → AsmFun → Bool
 unfolding insn_ok
-fun_ok es f = leb f.key.arity most_arity && every (λ i. insn_ok i && names_own (labels_of f) i && names_entries es i) f.code
+fun_ok es f =
+    leb f.key.arity most_arity && every (λ i. insn_ok i && names_own (labels_of f) i && names_entries es i) f.code
 
 -- whether a function is one of these
 abbrev pub is_key : FunKey → List FunKey → Bool

@@ -50,7 +50,15 @@ flags_view f = record { signed = f.signed; little = f.little }
 
 -- segments that are built
 abbrev pub segment_view : Segment → Plain.Segment
-segment_view g = record { is_binary = is_binary g.kind; number = g.number; unit = g.unit; flags = flags_view g.flags; value = source_view g.value; size = source_view g.size }
+segment_view g =
+    record {
+      is_binary = is_binary g.kind;
+      number = g.number;
+      unit = g.unit;
+      flags = flags_view g.flags;
+      value = source_view g.value;
+      size = source_view g.size;
+    }
 
 -- labels that may be missing
 abbrev pub label_view : Option LabelId → Option ℕ
@@ -137,8 +145,10 @@ insn_view (V.RecvMarkerBind d s) = Plain.recv_marker_bind (reg_view d) (source_v
 insn_view (V.RecvMarkerUse s) = Plain.recv_marker_use (source_view s)
 insn_view (V.RecvMarkerClear s) = Plain.recv_marker_clear (source_view s)
 insn_view (V.BsStartMatch4 l k s d) = Plain.bs_start_match4 (label_view l) k (source_view s) (reg_view d)
-insn_view (V.BsGetInteger2 l k c s u f d) = Plain.bs_get_integer2 l.0 k (reg_view c) (source_view s) u (flags_view f) (reg_view d)
-insn_view (V.BsGetBinary2 l k c s u f d) = Plain.bs_get_binary2 l.0 k (reg_view c) (source_view s) u (flags_view f) (reg_view d)
+insn_view (V.BsGetInteger2 l k c s u f d) =
+    Plain.bs_get_integer2 l.0 k (reg_view c) (source_view s) u (flags_view f) (reg_view d)
+insn_view (V.BsGetBinary2 l k c s u f d) =
+    Plain.bs_get_binary2 l.0 k (reg_view c) (source_view s) u (flags_view f) (reg_view d)
 insn_view (V.BsSkipBits2 l c s u f) = Plain.bs_skip_bits2 l.0 (reg_view c) (source_view s) u (flags_view f)
 insn_view (V.BsTestTail2 l c n) = Plain.bs_test_tail2 l.0 (reg_view c) n
 insn_view (V.BsTestUnit l c n) = Plain.bs_test_unit l.0 (reg_view c) n

@@ -1,6 +1,6 @@
-// Copies of instructions, a function for each family. No arm holds a copy while it makes another, since then each way out
-// of the function has to drop it, and none uses `?`, which writes the type of all instructions into the proof several times:
-// either makes the proof many times as long. An arm for the other families is never reached.
+// Copies of instructions, a function for each family. No arm holds a copy while it makes another, since then each way
+// out of the function has to drop it, and none uses `?`, which writes the type of all instructions into the proof
+// several times: either makes the proof many times as long. An arm for the other families is never reached.
 ghost use Rattle.std.specs.Prelude.{◌≡◌, IfOk};
 ghost use Rattle.beam_table.specs.Families.{family};
 ghost use Rattle.beam_table.specs.declared.family.Family.TheVariants as F;

@@ -33,5 +33,6 @@ pub fn raise_unwinds_the_stack()
 
 /// An instruction's text has the name and the kinds of operands of its opcode.
 pub fn opcodes_tell_operands()
-    ensures { (i : Insn) → IsTrue (has_row (opcode_row (opcode_of i)) (operands (insn_view i)).0 (operands (insn_view i)).1) }
+    ensures { (i : Insn)
+        → IsTrue (has_row (opcode_row (opcode_of i)) (operands (insn_view i)).0 (operands (insn_view i)).1) }
 {}

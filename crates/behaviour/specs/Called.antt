@@ -13,6 +13,7 @@ use Rattle.core_meaning.specs.FreshReferences.{Fresh}
 abbrev pub HasRisingMaps : Term → Type 0
 HasRisingMaps t = IsTrue (maps_rise t)
 
+-- what the world may answer
 pub record IsReply (r : Reply) : Type 0 where
   pub arrivals : All HasRisingMaps r.arrivals
   pub term : HasRisingMaps r.term
@@ -23,6 +24,7 @@ pub record IsScript (x : Script) : Type 0 where
   pub mailbox : All HasRisingMaps x.mailbox
   pub replies : All IsReply x.replies
 
+-- the exports of a Core module
 abbrev pub export_keys : Module → List FunKey
 export_keys m = map (λ f. f.key) m.exports
 
@@ -34,10 +36,12 @@ pub record Called (m : Module) (f : FunKey) (vs : List Term) (x : Script) : Type
   pub script : IsScript x
   pub fresh : Fresh m f vs x
 
+-- the others
 abbrev pub without : FunKey → List FunKey → List FunKey
 without f [] = []
 without f (g ∷ gs) = if same_key f g then without f gs else g ∷ without f gs
 
+-- each of them once, in their order
 abbrev pub each_once : List FunKey → List FunKey
 each_once [] = []
 each_once (f ∷ fs) = f ∷ without f (each_once fs)

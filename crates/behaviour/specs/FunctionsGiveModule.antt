@@ -20,7 +20,9 @@ pub record Realized (m : Module) (a : AsmModule) (f : FunKey) (vs : Values) (x :
   pub bodies : Bodies
   pub keep : BodiesKeep bodies
   pub realized : BodiesRealized (target a x.own) m.name x.own bodies
-  pub same : (n : ℕ) → entered_deep m.name x.own bodies (suc n) (known_export m f) vs (E.start x n) ≡ deep (known m x.own) (suc n) (known_export m f) vs (E.start x n)
+  pub same : (n : ℕ)
+      → entered_deep m.name x.own bodies (suc n) (known_export m f) vs (E.start x n)
+      ≡ deep (known m x.own) (suc n) (known_export m f) vs (E.start x n)
   pub function : AsmFun
   pub found : slice_get a.funs (known_export m f) ≡ Some function
   pub arity : length vs ≡ function.key.arity
@@ -29,4 +31,5 @@ pub record Realized (m : Module) (a : AsmModule) (f : FunKey) (vs : Values) (x :
 -- where that holds of each call, the modules behave the same, and tail entries stay tail entries
 abbrev pub FunctionsGiveModule : Type 0
 FunctionsGiveModule = (m : Module) (a : AsmModule) → SameInterface m a →
-    ((f : FunKey) (vs : Values) (x : Script) → Called m f vs x → Realized m a f vs x) → SameBehaviour m a × TailCalls m a
+    ((f : FunKey) (vs : Values) (x : Script) → Called m f vs x → Realized m a f vs x)
+    → SameBehaviour m a × TailCalls m a

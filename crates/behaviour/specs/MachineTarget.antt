@@ -28,6 +28,7 @@ pub record Holds (self : Term) (s : State) (m : Machine) : Type 0 where
   pub window : m.window ≡ None
   pub landing : m.landing ≡ None
 
+-- the machine of this module, as functions are realized on it
 abbrev pub target : AsmModule → Term → Target
 target a self = record {
   state = Machine;

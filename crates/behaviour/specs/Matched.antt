@@ -8,18 +8,23 @@ use Rattle.step_machine.specs.Steps as Steps
 use Rattle.step_machine.specs.Steps.{Ran, over, happenings, entries, sites, serials}
 use Rattle.step_machine.specs.Follows.{EndsAs, LeavesOut, KeepsTails, site_list}
 
+-- what happened, in order
 abbrev pub happened_in : Ran → List Happening
 happened_in r = reverse (happenings r.log)
 
+-- the entries, in order
 abbrev pub entered_in : Ran → List Entry
 entered_in r = reverse (entries r.log)
 
+-- the functions that were entered
 abbrev pub sites_in : Ran → List ℕ
 sites_in r = reverse (sites r.log)
 
+-- the messages that were looked at
 abbrev pub examined_in : Ran → List ℕ
 examined_in r = reverse (serials r.log)
 
+-- the one begins with the other
 abbrev pub IsPrefix : List Happening → List Happening → Type 0
 IsPrefix xs ys = (later : List Happening) × (xs ++ later ≡ ys)
 
@@ -47,8 +52,10 @@ pub record Costs (r : Ran) (e : Result) : Type 0 where
   pub passed : LeavesOut e.looks e.examined
   pub subs : Steps.subs r.log ≤ e.subs
 
+-- every bound is reached, with tail entries kept
 abbrev pub FollowsTails : (ℕ → Ran) → (ℕ → Result) → Type 0
 FollowsTails run eval = (n : ℕ) → (k : ℕ) × ReachesResult (run k) (eval n) × KeepsTailEntries (run k) (eval n)
 
+-- every bound is reached at these costs
 abbrev pub FollowsCosts : (ℕ → Ran) → (ℕ → Result) → Type 0
 FollowsCosts run eval = (n : ℕ) → (k : ℕ) × ReachesResult (run k) (eval n) × Costs (run k) (eval n)

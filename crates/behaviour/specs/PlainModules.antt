@@ -18,6 +18,7 @@ pub data PlainBody : Type 0 where
   atom : Name → PlainBody
   parameter : ℕ → PlainBody
 
+-- a function whose body is a number, an atom or a parameter
 pub record PlainFun : Type 0 where
   pub key : FunKey
   pub body : PlainBody
@@ -28,20 +29,24 @@ later_place b (Some j) = Some (suc j)
 later_place true None = Some 0
 later_place false None = None
 
+-- the last parameter of this name
 abbrev pub place_of : Name → List Binder → Option ℕ
 place_of x [] = None
 place_of x (b ∷ bs) = later_place (same_name x b.name) (place_of x bs)
 
+-- a parameter that is there
 abbrev pub as_parameter : Option ℕ → Option PlainBody
 as_parameter None = None
 as_parameter (Some j) = Some (parameter j)
 
+-- the body of a function, if it is plain
 abbrev pub plain_body : List Binder → Expr → Option PlainBody
 plain_body bs (literal p (T.int z)) = Some (number z)
 plain_body bs (literal p (T.atom a)) = Some (atom a)
 plain_body bs (var p x) = as_parameter (place_of x bs)
 plain_body bs e = None
 
+-- a function, if its body is plain
 abbrev pub with_key : FunKey → Option PlainBody → Option PlainFun
 with_key f None = None
 with_key f (Some b) = Some (record { key = f; body = b })
@@ -51,6 +56,7 @@ abbrev pub plain_fun : FunKey → Expr → Option PlainFun
 plain_fun f (fun p bs e) = if eqb f.arity (length bs) then with_key f (plain_body bs e) else None
 plain_fun f e = None
 
+-- all of them, or none
 abbrev pub and_also : Option PlainFun → Option (List PlainFun) → Option (List PlainFun)
 and_also None o = None
 and_also (Some h) None = None
@@ -61,6 +67,7 @@ abbrev pub plain_funs : Defs → Option (List PlainFun)
 plain_funs no_def = Some []
 plain_funs (and_def (def p f e) ds) = and_also (plain_fun f e) (plain_funs ds)
 
+-- a value in x0, and the end
 abbrev pub plain_code : PlainBody → List Insn
 plain_code (number z) = move (C.integer z) (x_reg 0) ∷ return ∷ []
 plain_code (atom a) = move (C.atom a) (x_reg 0) ∷ return ∷ []
@@ -70,10 +77,13 @@ plain_code (parameter (suc j)) = move (C.reg (x_reg (suc j))) (x_reg 0) ∷ retu
 -- function k has the labels 2k + 1 and 2k + 2
 abbrev pub plain_asm : ℕ → List PlainFun → List AsmFun
 plain_asm k [] = []
-plain_asm k (h ∷ hs) = record { key = h.key; info = 2 * k + 1; entry = 2 * k + 2; code = plain_code h.body } ∷ plain_asm (suc k) hs
+plain_asm k (h ∷ hs) =
+    record { key = h.key; info = 2 * k + 1; entry = 2 * k + 2; code = plain_code h.body } ∷ plain_asm (suc k) hs
 
+-- the module of plain functions
 abbrev pub plain_assembly : Module → List PlainFun → AsmModule
-plain_assembly m hs = record { name = m.name; exports = each_once (export_keys m); attributes = m.attributes; funs = plain_asm 0 hs }
+plain_assembly m hs =
+    record { name = m.name; exports = each_once (export_keys m); attributes = m.attributes; funs = plain_asm 0 hs }
 
 -- plain definitions with distinct names, and exports that are among them
 pub record IsPlainModule (m : Module) (hs : List PlainFun) : Type 0 where
@@ -92,9 +102,11 @@ body_fits (number z) = is_within_128 z
 body_fits (atom a) = true
 body_fits (parameter j) = true
 
+-- a function that a text can hold
 abbrev pub fun_fits : PlainFun → Bool
 fun_fits h = leb h.key.arity 255 && body_fits h.body
 
+-- so few and such functions that a text can hold them
 pub record FitsText (m : Module) (hs : List PlainFun) : Type 0 where
   pub few : length hs < 2 ^ 31
   pub functions : IsTrue (every fun_fits hs)
@@ -102,4 +114,5 @@ pub record FitsText (m : Module) (hs : List PlainFun) : Type 0 where
 
 -- then their assembly is a valid module
 abbrev pub PlainAssemblyIsValid : Type 0
-PlainAssemblyIsValid = (m : Module) (hs : List PlainFun) → IsPlainModule m hs → FitsText m hs → Valid (plain_assembly m hs)
+PlainAssemblyIsValid = (m : Module) (hs : List PlainFun) → IsPlainModule m hs → FitsText m hs
+    → Valid (plain_assembly m hs)

@@ -29,11 +29,14 @@ module _ (t : Target) where
     pub mailbox : t.holds s m
 
   -- from m the run comes to a step that leads there, which takes one more step
-  pub record Comes (m : t.state) (rs : List Reply) (log : List Event) (x : Stepped t.state) (rs' : List Reply) (log' : List Event) : Type 0 where
+  pub record Comes (m : t.state) (rs : List Reply) (log : List Event) (x : Stepped t.state) (rs' : List Reply)
+      (log' : List Event) : Type 0 where
     pub steps : ℕ
     pub then_same : (k : ℕ) → run t.step (up steps (suc k)) m rs log ≡ perform x (run t.step k) rs' log'
 
-  pub record To (m : t.state) (rs : List Reply) (log : List Event) (s : State) (x : t.state → Stepped t.state) : Type 0 where
+  -- some steps lead there, and note what the meaning noted
+  pub record To (m : t.state) (rs : List Reply) (log : List Event) (s : State)
+      (x : t.state → Stepped t.state) : Type 0 where
     pub state : t.state
     pub rs' : List Reply
     pub log' : List Event
@@ -49,6 +52,7 @@ module _ (t : Target) where
     pub site : ℕ
     pub enters : sites (run t.step (suc steps) m rs log).log ≡ site ∷ sites log'
 
+  -- the machine does what a meaning does
   abbrev pub Realizes : t.above → t.state → List Reply → List Event → State × Outcome Term → Type 0
   Realizes a m rs log (s, gives v) = To m rs log s (t.returns a v)
   Realizes a m rs log (s, raises c r) = To m rs log s (t.unwinds a c r)
@@ -57,11 +61,14 @@ module _ (t : Target) where
 
   -- with fewer than d entries left, whatever stands above
   abbrev pub RealizesAll : ℕ → (ℕ → Values → M Term) → Type 0
-  RealizesAll d enter = (n : ℕ) (vs : Values) (a : t.above) (m : t.state) (rs : List Reply) (log : List Event) (s : State) →
+  RealizesAll d enter =
+      (n : ℕ) (vs : Values) (a : t.above) (m : t.state) (rs : List Reply) (log : List Event) (s : State) →
       s.left < d → t.at_entry n vs a m → Matches s m rs log → Realizes a m rs log (enter n vs s)
 
   -- what is to be proved of each function of the module with this name, run by this process, the others left open
   abbrev pub BodiesRealized : Name → Term → Bodies → Type 0
-  BodiesRealized name own bs = (d n : ℕ) (enter : ℕ → Values → M Term) (vs : Values) (a : t.above) (m : t.state) (rs : List Reply) (log : List Event) (s : State) →
+  BodiesRealized name own bs =
+      (d n : ℕ) (enter : ℕ → Values → M Term) (vs : Values) (a : t.above) (m : t.state) (rs : List Reply)
+      (log : List Event) (s : State) →
       Lowers enter → RealizesAll d enter → s.left ≤ d → t.at_entry n vs a m → Matches s m rs log →
       Realizes a m rs log (bs n (record { name = name; own = own; enter = enter }) vs s)

@@ -11,6 +11,7 @@ use Rattle.beam_table.specs.MachineRun.{asm_run}
 use Rattle.behaviour.specs.Called.{Called, export_keys, each_once}
 use Rattle.behaviour.specs.Matched.{sites_in, ReachesResult, StaysWithin, FollowsTails, FollowsCosts}
 
+-- the same name, attributes and exports
 pub record SameInterface (m : Module) (a : AsmModule) : Type 0 where
   pub name : a.name ≡ m.name
   pub attributes : a.attributes ≡ m.attributes
@@ -22,6 +23,7 @@ pub record FollowsResults (run : ℕ → Ran) (eval : ℕ → Result) : Type 0 w
   pub machine_run_is_matched : (k : ℕ) → StaysWithin (run k) (eval (length (sites_in (run k))))
   pub never_bad : (k : ℕ) → (run k).end ≢ is_bad
 
+-- the same interface, and every call is followed
 pub record SameBehaviour (m : Module) (a : AsmModule) : Type 0 where
   pub interface : SameInterface m a
   pub follows : (f : FunKey) (vs : List Term) (x : Script) → Called m f vs x →
@@ -29,8 +31,10 @@ pub record SameBehaviour (m : Module) (a : AsmModule) : Type 0 where
 
 -- where a run reaches what the module does, its tail entries stay tail entries
 abbrev pub TailCalls : Module → AsmModule → Type 0
-TailCalls m a = (f : FunKey) (vs : List Term) (x : Script) → Called m f vs x → FollowsTails (asm_run a f vs x) (evaluated m f vs x)
+TailCalls m a = (f : FunKey) (vs : List Term) (x : Script) → Called m f vs x
+    → FollowsTails (asm_run a f vs x) (evaluated m f vs x)
 
 -- where a run reaches what the module does, it examines the same messages and makes no more sub-binaries
 abbrev pub CheapCalls : Module → AsmModule → Type 0
-CheapCalls m a = (f : FunKey) (vs : List Term) (x : Script) → Called m f vs x → FollowsCosts (asm_run a f vs x) (evaluated m f vs x)
+CheapCalls m a = (f : FunKey) (vs : List Term) (x : Script) → Called m f vs x
+    → FollowsCosts (asm_run a f vs x) (evaluated m f vs x)

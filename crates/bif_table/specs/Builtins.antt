@@ -14,8 +14,8 @@ pub data Bif : Type 0 where
   Element TupleSize Size ByteSize BitSize Length Hd Tl MapSize IsMapKey MapGet Self : Bif
   Error1 Error2 Exit1 Throw1 : Bif
 
--- who calls a function: guards and bodies; the same, where the machine collects first, since the number that is answered
--- may take room of its own; bodies alone, since it always raises
+-- who calls a function: guards and bodies; the same, where the machine collects first, since the number that is
+-- answered may take room of its own; bodies alone, since it always raises
 pub data Group : Type 0 where
   plain collecting raising : Group
 

@@ -12,7 +12,7 @@ use Rattle.step_machine.specs.Bodies.{Here}
 use Rattle.step_machine.specs.EntryBound.{Lowers}
 use Rattle.ssa_form.specs.Ssa as Ssa
 use Rattle.ssa_form.specs.Ssa.{Op, FrameAction, Set, Last, Phi, Block, Body, block_at}
-use Rattle.ssa_form.specs.Storage.{Held, term, Handler, Storage, Frame, After, on, pick, up, over, Around, go_on, if_some, kept}
+use Rattle.ssa_form.specs.Storage.{Held, term, Handler, Storage, Frame, After, next, choose, raise, finish, Around, go_on, if_some, kept}
 use Rattle.ssa_form.specs.SetFacts.{breaks_cycle}
 use Rattle.ssa_form.specs.Flow.{point, after_op, Reached}
 use Rattle.ssa_form.specs.WellFormed.{any_op, lands_for}
@@ -28,11 +28,11 @@ and_second true b e = e
 and_second false b e = absurd cc
 
 pub only_then : {S : Type 0} (open_in : S → List Handler) (P : After S → Type 0) → P After.bad → (f : Frame S) (s : State) (a : After S) (k : Frame S → State → After S) → OnlyOn open_in f s a → ((g : Frame S) (u : State) → Eases open_in f s g u → P (k g u)) → P (go_on a k)
-only_then open_in P q f s (on g u) k h i = i g u h
+only_then open_in P q f s (next g u) k h i = i g u h
 only_then open_in P q f s After.bad k h i = q
-only_then open_in P q f s (pick c g u) k h i = absurd h
-only_then open_in P q f s (up c x g u) k h i = absurd h
-only_then open_in P q f s (over u z) k h i = absurd h
+only_then open_in P q f s (choose c g u) k h i = absurd h
+only_then open_in P q f s (raise c x g u) k h i = absurd h
+only_then open_in P q f s (finish u z) k h i = absurd h
 
 pub landing_after : (op : Op) (hs : List Handler) → IsTrue (is_landing op) → after_op op hs ≡ hs
 landing_after Ssa.try_end hs e = absurd cc
@@ -94,14 +94,14 @@ module _ {S : Type 0} (o : Storage S) (around : Around) (here : Here) (lowers : 
     -- behind a quiet beginning
 
     chained_eased : (ys : List Set) (f : Frame S) (s : State) (g : Frame S) (u : State) (a : After S) → Eases open_in f s g u → Leaves ys g u a → Leaves ys f s a
-    chained_eased ys f s g u (on h v) e p = record {
+    chained_eased ys f s g u (next h v) e p = record {
       low = let l : v.left ≤ u.left = p.low in let k : u.left ≤ s.left = e.low in omega (arith, l, k);
       fits = p.fits;
       reached = p.reached;
       falls = λ r. most_twice _ _ _ (p.falls r) e.falls;
       looks = λ r t. then_most _ _ _ (p.looks r t) e.falls;
     }
-    chained_eased ys f s g u (pick c h v) e p = record {
+    chained_eased ys f s g u (choose c h v) e p = record {
       low = let l : v.left ≤ u.left = p.low in let k : u.left ≤ s.left = e.low in omega (arith, l, k);
       fits = p.fits;
       at = p.at;
@@ -116,7 +116,7 @@ module _ {S : Type 0} (o : Storage S) (around : Around) (here : Here) (lowers : 
       falls = λ r. most_twice _ _ _ (p.falls r) e.falls;
       looks = λ r t. then_most _ _ _ (p.looks r t) e.falls;
     }
-    chained_eased ys f s g u (up c z h v) e p = record {
+    chained_eased ys f s g u (raise c z h v) e p = record {
       low = let l : v.left ≤ u.left = p.low in let k : u.left ≤ s.left = e.low in omega (arith, l, k);
       at = p.at;
       by = p.by;
@@ -125,20 +125,20 @@ module _ {S : Type 0} (o : Storage S) (around : Around) (here : Here) (lowers : 
       reached = p.reached;
       may = p.may;
     }
-    chained_eased ys f s g u (over v z) e p = let k : u.left ≤ s.left = e.low in omega (arith, p, k)
+    chained_eased ys f s g u (finish v z) e p = let k : u.left ≤ s.left = e.low in omega (arith, p, k)
     chained_eased ys f s g u After.bad e p = tt
 
     -- behind a landing, where no cycle passes
 
     chained_landed : (ys zs : List Set) (f : Frame S) (s : State) (g : Frame S) (u : State) (a : After S) → IsTrue (any_op breaks_cycle ys) → u.left ≤ s.left → Leaves zs g u a → Leaves ys f s a
-    chained_landed ys zs f s g u (on h v) t l p = record {
+    chained_landed ys zs f s g u (next h v) t l p = record {
       low = let k : v.left ≤ u.left = p.low in omega (arith, l, k);
       fits = p.fits;
       reached = p.reached;
       falls = λ r. absurd (true_not _ t r);
       looks = λ r i. absurd (true_not _ t r);
     }
-    chained_landed ys zs f s g u (pick c h v) t l p = record {
+    chained_landed ys zs f s g u (choose c h v) t l p = record {
       low = let k : v.left ≤ u.left = p.low in omega (arith, l, k);
       fits = p.fits;
       at = p.at;
@@ -153,7 +153,7 @@ module _ {S : Type 0} (o : Storage S) (around : Around) (here : Here) (lowers : 
       falls = λ r. absurd (true_not _ t r);
       looks = λ r i. absurd (true_not _ t r);
     }
-    chained_landed ys zs f s g u (up c z h v) t l p = record {
+    chained_landed ys zs f s g u (raise c z h v) t l p = record {
       low = let k : v.left ≤ u.left = p.low in omega (arith, l, k);
       at = p.at;
       by = p.by;
@@ -162,7 +162,7 @@ module _ {S : Type 0} (o : Storage S) (around : Around) (here : Here) (lowers : 
       reached = p.reached;
       may = p.may;
     }
-    chained_landed ys zs f s g u (over v z) t l p = omega (arith, p, l)
+    chained_landed ys zs f s g u (finish v z) t l p = omega (arith, p, l)
     chained_landed ys zs f s g u After.bad t l p = tt
 
     heads_are : (h k : Handler) (hs is' : List Handler) → h ∷ hs ≡ k ∷ is' → hs ≡ is'
@@ -177,7 +177,7 @@ module _ {S : Type 0} (o : Storage S) (around : Around) (here : Here) (lowers : 
 
     -- the value of a catch, where the trace may be asked for
     caught_holds : (P : After S → Type 0) → P After.bad → (dst : Option ℕ) (f : Frame S) (s : State) (c : Class) (r : Term) (k : Frame S → State → After S) → f.window ≡ None
-        → ((u : State) (q : Outcome Term) → u.left ≤ s.left → P (over u q))
+        → ((u : State) (q : Outcome Term) → u.left ≤ s.left → P (finish u q))
         → ((g : Frame S) (u : State) → Eases open_in f s g u → P (k g u))
         → P (go_on (follows o around here dst f (exit_of c r s)) k)
     caught_holds P q dst f s T.throw r k w i j = only_then open_in P q f s _ k (put_in dst _ f s f s (eased open_in f s)) j

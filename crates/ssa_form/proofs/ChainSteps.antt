@@ -5,7 +5,7 @@ use Rattle.step_machine.specs.Bodies.{Here}
 use Rattle.step_machine.specs.EntryBound.{Lowers}
 use Rattle.ssa_form.specs.Ssa as Ssa
 use Rattle.ssa_form.specs.Ssa.{Arg, Op, FrameAction, Set, Last, br, succeeded, switch, ret, Phi, Block, Body, block_at}
-use Rattle.ssa_form.specs.Storage.{Handler, Storage, Frame, After, on, pick, up, over, Mode, plain, tail, jump, tests, Around, in_window, go_on, kept}
+use Rattle.ssa_form.specs.Storage.{Handler, Storage, Frame, After, next, choose, raise, finish, Mode, plain, tail, jump, tests, Around, in_window, go_on, kept}
 use Rattle.ssa_form.specs.SetFacts.{is_tests, is_peek, may_raise, breaks_cycle}
 use Rattle.ssa_form.specs.Flow.{point, set_from, set_in, set_at, after_op, goes, Reached, passes}
 use Rattle.ssa_form.specs.WellFormed.{any_op, tests_nothing}
@@ -148,10 +148,10 @@ module _ (b : Body) (n : ℕ) (x : Block) (there : block_at b n ≡ Some x) wher
       pub may : IsTrue (may_raise mode by.op)
 
     abbrev pub Chained : After S → Type 0
-    Chained (on g u) = Through g u
-    Chained (pick c g u) = Chosen c g u
-    Chained (up c y g u) = Risen g u
-    Chained (over u q) = u.left ≤ s.left
+    Chained (next g u) = Through g u
+    Chained (choose c g u) = Chosen c g u
+    Chained (raise c y g u) = Risen g u
+    Chained (finish u q) = u.left ≤ s.left
     Chained After.bad = Unit {0}
 
   module _ {S : Type 0} (o : Storage S) (around : Around) (here : Here) (lowers : Lowers here.enter) (open_in : S → List Handler) (tracks : Tracks o open_in) where
@@ -168,14 +168,14 @@ module _ (b : Body) (n : ℕ) (x : Block) (there : block_at b n ≡ Some x) wher
     -- A set.
 
     steps_after : (op : Op) (m : Mode) (dst : Option ℕ) (f : Frame S) (s : State) (g : Frame S) (u : State) (a : After S) → Eases open_in f s g u → Steps open_in op m dst g u a → Steps open_in op m dst f s a
-    steps_after op m dst f s g u (on h v) e p = record {
+    steps_after op m dst f s g u (next h v) e p = record {
       low = let l : v.left ≤ u.left = p.low in let k : u.left ≤ s.left = e.low in omega (arith, l, k);
       handlers = p.handlers ∙ ap (after_op op) e.handlers;
       fits = p.fits;
       falls = λ q. most_twice _ _ _ (p.falls q) e.falls;
       no_look = p.no_look;
     }
-    steps_after op m dst f s g u (pick c h v) e p = record {
+    steps_after op m dst f s g u (choose c h v) e p = record {
       low = let l : v.left ≤ u.left = p.low in let k : u.left ≤ s.left = e.low in omega (arith, l, k);
       tested = p.tested;
       mode = p.mode;
@@ -185,21 +185,21 @@ module _ (b : Body) (n : ℕ) (x : Block) (there : block_at b n ≡ Some x) wher
       falls = λ q. most_twice _ _ _ (p.falls q) e.falls;
       looks = λ q. then_most _ _ _ (p.looks q) e.falls;
     }
-    steps_after op m dst f s g u (up c y h v) e p = record {
+    steps_after op m dst f s g u (raise c y h v) e p = record {
       low = let l : v.left ≤ u.left = p.low in let k : u.left ≤ s.left = e.low in omega (arith, l, k);
       handlers = p.handlers ∙ e.handlers;
       may = p.may;
     }
-    steps_after op m dst f s g u (over v q) e p = let k : u.left ≤ s.left = e.low in omega (arith, p, k)
+    steps_after op m dst f s g u (finish v q) e p = let k : u.left ≤ s.left = e.low in omega (arith, p, k)
     steps_after op m dst f s g u After.bad e p = tt
 
     set_after : (m : Mode) (y : Set) (f : Frame S) (s : State) (a : After S) → Fits f s → OnlyOn open_in f s a
         → Steps open_in y.op m y.dst f s (go_on a (λ g u. does o around here y.op y.args m y.dst (all_held o around here g y.args) g u))
-    set_after m y f s (on g u) i e = steps_after y.op m y.dst f s g u _ e (steps (walk g u) lowers (e.fits i) y.op y.args m y.dst (all_held o around here g y.args))
+    set_after m y f s (next g u) i e = steps_after y.op m y.dst f s g u _ e (steps (walk g u) lowers (e.fits i) y.op y.args m y.dst (all_held o around here g y.args))
     set_after m y f s After.bad i e = tt
-    set_after m y f s (pick c g u) i e = absurd e
-    set_after m y f s (up c z g u) i e = absurd e
-    set_after m y f s (over u q) i e = absurd e
+    set_after m y f s (choose c g u) i e = absurd e
+    set_after m y f s (raise c z g u) i e = absurd e
+    set_after m y f s (finish u q) i e = absurd e
 
     pub set_steps : (m : Mode) (y : Set) (f : Frame S) (s : State) → Fits f s → Steps open_in y.op m y.dst f s (set_does o around here m y f s)
     set_steps m y f s i = set_after m y f s (acts_do o around here y.before f s) i (acts_only y.before f s f s (eased open_in f s))
@@ -207,14 +207,14 @@ module _ (b : Body) (n : ℕ) (x : Block) (there : block_at b n ≡ Some x) wher
     -- A chain, from its end on.
 
     chained_after : (y : Set) (ys : List Set) (f : Frame S) (s : State) (g : Frame S) (u : State) (a : After S) → Passes open_in y.op (mode_of y.dst ys x.before x.last) y.dst f s g u → Chained open_in ys g u a → Chained open_in (y ∷ ys) f s a
-    chained_after y ys f s g u (on h v) p q = record {
+    chained_after y ys f s g u (next h v) p q = record {
       low = let l : v.left ≤ u.left = q.low in let k : u.left ≤ s.left = p.low in omega (arith, l, k);
       fits = q.fits;
       reached = q.reached;
       falls = λ r. let e : IsFalse (breaks_cycle y.op) × IsFalse (any_op breaks_cycle ys) = or_false _ _ r in most_twice _ _ _ (q.falls e.1) (p.falls e.0);
       looks = λ r t. let e : IsFalse (breaks_cycle y.op) × IsFalse (any_op breaks_cycle ys) = or_false _ _ r in then_most _ _ _ (q.looks e.1 (or_second _ _ t p.no_look)) (p.falls e.0);
     }
-    chained_after y ys f s g u (pick c h v) p q = record {
+    chained_after y ys f s g u (choose c h v) p q = record {
       low = let l : v.left ≤ u.left = q.low in let k : u.left ≤ s.left = p.low in omega (arith, l, k);
       fits = q.fits;
       at = q.at;
@@ -229,7 +229,7 @@ module _ (b : Body) (n : ℕ) (x : Block) (there : block_at b n ≡ Some x) wher
       falls = λ r. let e : IsFalse (breaks_cycle y.op) × IsFalse (any_op breaks_cycle ys) = or_false _ _ r in most_twice _ _ _ (q.falls e.1) (p.falls e.0);
       looks = λ r t. let e : IsFalse (breaks_cycle y.op) × IsFalse (any_op breaks_cycle ys) = or_false _ _ r in then_most _ _ _ (q.looks e.1 (or_second _ _ t p.no_look)) (p.falls e.0);
     }
-    chained_after y ys f s g u (up c z h v) p q = record {
+    chained_after y ys f s g u (raise c z h v) p q = record {
       low = let l : v.left ≤ u.left = q.low in let k : u.left ≤ s.left = p.low in omega (arith, l, k);
       at = q.at;
       by = q.by;
@@ -238,7 +238,7 @@ module _ (b : Body) (n : ℕ) (x : Block) (there : block_at b n ≡ Some x) wher
       reached = q.reached;
       may = q.may;
     }
-    chained_after y ys f s g u (over v z) p q = let k : u.left ≤ s.left = p.low in omega (arith, q, k)
+    chained_after y ys f s g u (finish v z) p q = let k : u.left ≤ s.left = p.low in omega (arith, q, k)
     chained_after y ys f s g u After.bad p q = tt
 
     nothing_looks : (y : Set) (ys : List Set) → ys ≡ [] → IsTrue (any_op is_peek (y ∷ ys)) → IsTrue (is_peek y.op)
@@ -249,8 +249,8 @@ module _ (b : Body) (n : ℕ) (x : Block) (there : block_at b n ≡ Some x) wher
         → Steps open_in y.op (mode_of y.dst ys x.before x.last) y.dst f s a
         → ((g : Frame S) (u : State) → Fits g u → At ys (suc k) (open_in g.store) → Chained open_in ys g u (c g u))
         → Chained open_in (y ∷ ys) f s (go_on a c)
-    chain_after y ys k f s (on g u) c h r p i = chained_after y ys f s g u (c g u) p (i g u p.fits (subst (At ys (suc k)) (sym p.handlers) (at_next y ys k (open_in f.store) h r)))
-    chain_after y ys k f s (pick v g u) c h r p i = record {
+    chain_after y ys k f s (next g u) c h r p i = chained_after y ys f s g u (c g u) p (i g u p.fits (subst (At ys (suc k)) (sym p.handlers) (at_next y ys k (open_in f.store) h r)))
+    chain_after y ys k f s (choose v g u) c h r p i = record {
       low = p.low;
       fits = p.fits;
       at = k;
@@ -265,12 +265,12 @@ module _ (b : Body) (n : ℕ) (x : Block) (there : block_at b n ≡ Some x) wher
       falls = λ q. p.falls (or_false _ _ q).0;
       looks = λ q l. let t : Tested ys x.last p.tested = tested_by y.dst ys x.before x.last p.tested p.mode in p.looks (nothing_looks y ys t.nothing_after l);
     }
-    chain_after y ys k f s (up v z g u) c h r p i = record { low = p.low; at = k; by = y; mode = mode_of y.dst ys x.before x.last; is_there = head_there y ys k h; reached = subst (Reached b (point n k)) (sym p.handlers) r; may = p.may }
-    chain_after y ys k f s (over u q) c h r p i = p
+    chain_after y ys k f s (raise v z g u) c h r p i = record { low = p.low; at = k; by = y; mode = mode_of y.dst ys x.before x.last; is_there = head_there y ys k h; reached = subst (Reached b (point n k)) (sym p.handlers) r; may = p.may }
+    chain_after y ys k f s (finish u q) c h r p i = p
     chain_after y ys k f s After.bad c h r p i = tt
 
     ended_chain : (k : ℕ) (f : Frame S) (s : State) (a : After S) → From [] k → At [] k (open_in f.store) → Fits f s → OnlyOn open_in f s a → Chained open_in [] f s a
-    ended_chain k f s (on g u) h r i e = record {
+    ended_chain k f s (next g u) h r i e = record {
       low = e.low;
       fits = e.fits i;
       reached = λ t. subst (λ j. Reached b (point n j) (open_in g.store)) (let l : k + 0 ≡ length x.chain = h.long in omega (arith, l)) (subst (Reached b (point n k)) (sym e.handlers) (r t));
@@ -278,9 +278,9 @@ module _ (b : Body) (n : ℕ) (x : Block) (there : block_at b n ≡ Some x) wher
       looks = λ q l. absurd cc;
     }
     ended_chain k f s After.bad h r i e = tt
-    ended_chain k f s (pick c g u) h r i e = absurd e
-    ended_chain k f s (up c z g u) h r i e = absurd e
-    ended_chain k f s (over u q) h r i e = absurd e
+    ended_chain k f s (choose c g u) h r i e = absurd e
+    ended_chain k f s (raise c z g u) h r i e = absurd e
+    ended_chain k f s (finish u q) h r i e = absurd e
 
     pub chain_steps : (ys : List Set) (k : ℕ) (f : Frame S) (s : State) → From ys k → At ys k (open_in f.store) → Fits f s → Chained open_in ys f s (chain_does o around here x.before x.last ys f s)
     chain_steps [] k f s h r i = ended_chain k f s _ h r i (acts_only x.before f s f s (eased open_in f s))

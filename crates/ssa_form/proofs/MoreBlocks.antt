@@ -6,9 +6,9 @@ use Rattle.world_model.specs.World.{Message}
 use Rattle.world_model.specs.Run.{State, Outcome}
 use Rattle.step_machine.specs.Bodies.{Here}
 use Rattle.ssa_form.specs.Ssa.{Last, br, succeeded, switch, ret, Block, Body, block_at}
-use Rattle.ssa_form.specs.Storage.{Held, term, Handler, Storage, Frame, After, on, pick, up, over, Ended, done, unfinished, Around}
+use Rattle.ssa_form.specs.Storage.{Held, term, Handler, Storage, Frame, After, next, choose, raise, finish, Ended, done, unfinished, Around}
 use Rattle.ssa_form.specs.Operations.{held}
-use Rattle.ssa_form.specs.SsaRun.{Raised, picked, truth_of, choice_of, leave, leave_on, leave_pick, raised_to, switched, goes_by, either_end, unless_looking, block_does, entered_by, blocks, in_vars, ssa_run, Gives}
+use Rattle.ssa_form.specs.SsaRun.{Raised, picked, truth_in, choice_of, leave, leave_next, leave_choose, raised_to, switched, goes_by, either_end, unless_looking, block_does, entered_by, blocks, in_vars, ssa_run, SsaGives}
 
 either_more : (b : Bool) (p q r t : Ended) → (p ≢ unfinished → r ≡ p) → (q ≢ unfinished → t ≡ q) → either_end b p q ≢ unfinished → either_end b r t ≡ either_end b p q
 either_more true p q r t h g u = h u
@@ -33,13 +33,13 @@ module _ {S : Type 0} (o : Storage S) (around : Around) (here : Here) where
     switch_more (term t) n d cs x s u = h None n (choice_of cs t d) x s u
     switch_more _ n d cs x s u = refl
 
-    on_more : (n : ℕ) (l : Last) (x : Frame S) (s : State) → leave_on o around here f n l x s ≢ unfinished → leave_on o around here g n l x s ≡ leave_on o around here f n l x s
-    on_more n (br a t e) x s u = either_more (eqb t e) _ _ _ _ (h None n t x s) (by_more (truth_of (held o around here x a)) n t e x s) u
+    on_more : (n : ℕ) (l : Last) (x : Frame S) (s : State) → leave_next o around here f n l x s ≢ unfinished → leave_next o around here g n l x s ≡ leave_next o around here f n l x s
+    on_more n (br a t e) x s u = either_more (eqb t e) _ _ _ _ (h None n t x s) (by_more (truth_in (held o around here x a)) n t e x s) u
     on_more n (succeeded v t e) x s u = refl
     on_more n (switch a d cs) x s u = switch_more (held o around here x a) n d cs x s u
     on_more n (ret a) x s u = refl
 
-    pick_more : (n : ℕ) (l : Last) (b : Bool) (x : Frame S) (s : State) → leave_pick o around here f n l b x s ≢ unfinished → leave_pick o around here g n l b x s ≡ leave_pick o around here f n l b x s
+    pick_more : (n : ℕ) (l : Last) (b : Bool) (x : Frame S) (s : State) → leave_choose o around here f n l b x s ≢ unfinished → leave_choose o around here g n l b x s ≡ leave_choose o around here f n l b x s
     pick_more n (br a t e) b x s u = refl
     pick_more n (succeeded v t e) b x s u = h None n (picked b t e) x s u
     pick_more n (switch a d cs) b x s u = refl
@@ -50,10 +50,10 @@ module _ {S : Type 0} (o : Storage S) (around : Around) (here : Here) where
     raised_more None n c r x s u = refl
 
     leave_more : (n : ℕ) (l : Last) (a : After S) → leave o around here f n l a ≢ unfinished → leave o around here g n l a ≡ leave o around here f n l a
-    leave_more n l (on x s) u = on_more n l x s u
-    leave_more n l (pick b x s) u = pick_more n l b x s u
-    leave_more n l (up c r x s) u = looking_more x.window _ _ (raised_more (o.handler x.store) n c r x s) u
-    leave_more n l (over s r) u = refl
+    leave_more n l (next x s) u = on_more n l x s u
+    leave_more n l (choose b x s) u = pick_more n l b x s u
+    leave_more n l (raise c r x s) u = looking_more x.window _ _ (raised_more (o.handler x.store) n c r x s) u
+    leave_more n l (finish s r) u = refl
     leave_more n l After.bad u = refl
 
     block_more : (b : Option Block) (e : Option Raised) (m n : ℕ) (x : Frame S) (s : State) → block_does o around here b f e m n x s ≢ unfinished → block_does o around here b g e m n x s ≡ block_does o around here b f e m n x s
@@ -93,7 +93,7 @@ same_done r q e = ap (λ x. result_in x r) e
 not_unfinished : (s : State) (p : Outcome Term) (x : Ended) → x ≡ done s p → x ≢ unfinished
 not_unfinished s p x e u = let d : done s p ≡ unfinished = sym e ∙ u in cc
 
-pub one_result : (around : Around) (here : Here) (b : Body) (vs : Values) (s : State) (r q : State × Outcome Term) → Gives around here b vs s r → Gives around here b vs s q → r ≡ q
+pub one_result : (around : Around) (here : Here) (b : Body) (vs : Values) (s : State) (r q : State × Outcome Term) → SsaGives around here b vs s r → SsaGives around here b vs s q → r ≡ q
 unfolding ssa_run
 one_result around here b vs s r q g h = ⊎_elim
     (λ l. sym (same_done _ _ (sym h.ends ∙ more in_vars around here b g.within h.within l _ _ _ _ _ (not_unfinished _ _ _ g.ends) ∙ g.ends)))

@@ -13,8 +13,8 @@ use Rattle.step_machine.specs.EntryBound.{Lowers}
 use Rattle.step_machine.specs.Frames.{rest_of}
 use Rattle.ssa_form.specs.Ssa as Ssa
 use Rattle.ssa_form.specs.Ssa.{Arg, var, lit, Op}
-use Rattle.ssa_form.specs.Checks.{holds}
-use Rattle.ssa_form.specs.Storage.{Held, unset, term, context, position, marker, Handler, Frame, After, on, pick, up, over, Mode, plain, tail, jump, tests, go_on, if_some}
+use Rattle.ssa_form.specs.Checks.{check_holds}
+use Rattle.ssa_form.specs.Storage.{Held, unset, term, context, position, marker, Handler, Frame, After, next, choose, raise, finish, Mode, plain, tail, jump, tests, go_on, if_some}
 use Rattle.ssa_form.specs.Values.{terms_of, parts_of}
 use Rattle.ssa_form.specs.SetFacts.{is_tests, may_raise, never_raises, is_peek, breaks_cycle}
 use Rattle.ssa_form.specs.Flow.{after_op, opened}
@@ -53,10 +53,10 @@ module _ {S : Type 0} (open_in : S → List Handler) (op : Op) (m : Mode) (dst :
     pub may : IsTrue (may_raise m op)
 
   abbrev pub Steps : After S → Type 0
-  Steps (on g u) = Passes g u
-  Steps (pick c g u) = Picks c g u
-  Steps (up c x g u) = Raises g u
-  Steps (over u q) = u.left ≤ s.left
+  Steps (next g u) = Passes g u
+  Steps (choose c g u) = Picks c g u
+  Steps (raise c x g u) = Raises g u
+  Steps (finish u q) = u.left ≤ s.left
   Steps After.bad = Unit {0}
 
 -- Operations that are no handlers, looks or moves of the save place.
@@ -98,14 +98,14 @@ picked_plain true op dst n hs e = opened_plain op dst n hs e
 picked_plain false op dst n hs e = refl
 
 quiet_steps : {S : Type 0} (open_in : S → List Handler) (op : Op) (m : Mode) (dst : Option ℕ) (f : Frame S) (s : State) (a : After S) → IsTrue (is_plain op) → Fits f s → Quiet open_in m (may_raise m op) f s a → Steps open_in op m dst f s a
-quiet_steps open_in op m dst f s (on g u) p fits q = record {
+quiet_steps open_in op m dst f s (next g u) p fits q = record {
   low = q.low;
   handlers = q.handlers ∙ sym (after_plain op (open_in f.store) p);
   fits = q.fits fits;
   falls = λ b. q.falls;
   no_look = look_plain op p;
 }
-quiet_steps open_in op m dst f s (pick c g u) p fits q = record {
+quiet_steps open_in op m dst f s (choose c g u) p fits q = record {
   low = q.1.low;
   tested = (tested_at m q.0).0;
   mode = (tested_at m q.0).1;
@@ -115,8 +115,8 @@ quiet_steps open_in op m dst f s (pick c g u) p fits q = record {
   falls = λ b. q.1.falls;
   looks = λ b. absurd (no_look_at _ (look_plain op p) b);
 }
-quiet_steps open_in op m dst f s (up c x g u) p fits q = record { low = q.1; handlers = q.2; may = q.0 }
-quiet_steps open_in op m dst f s (over u q') p fits q = q
+quiet_steps open_in op m dst f s (raise c x g u) p fits q = record { low = q.1; handlers = q.2; may = q.0 }
+quiet_steps open_in op m dst f s (finish u q') p fits q = q
 quiet_steps open_in op m dst f s After.bad p fits q = tt
 
 module _ {S : Type 0} (w : Walk S) where
@@ -156,7 +156,7 @@ module _ {S : Type 0} (w : Walk S) where
     terms_quiet (Ssa.element n) m dst vs h = element_quiet w m _ n dst vs w.f0 w.s0 start
     terms_quiet Ssa.hd m dst vs h = cell_quiet w m _ true dst vs w.f0 w.s0 start
     terms_quiet Ssa.tl m dst vs h = cell_quiet w m _ false dst vs w.f0 w.s0 start
-    terms_quiet (Ssa.check c) m dst vs h = some_quiet w m _ (holds c vs) _ (λ b p. asked_quiet w m _ b w.f0 w.s0 start)
+    terms_quiet (Ssa.check c) m dst vs h = some_quiet w m _ (check_holds c vs) _ (λ b p. asked_quiet w m _ b w.f0 w.s0 start)
     terms_quiet (Ssa.make_fun n) m dst vs h = collected_quiet w m _ w.f0 w.s0 _ start (λ g e. fun_made_quiet w m _ n dst vs g w.s0 e)
     terms_quiet Ssa.call_fun m dst vs h = fun_quiet w lowers m dst vs w.f0 w.s0 start
     terms_quiet Ssa.call_remote m dst vs h = remote_quiet w lowers m dst vs w.f0 w.s0 start
@@ -251,7 +251,7 @@ module _ {S : Type 0} (w : Walk S) where
 
     seen_steps : (n e v : ℕ) (m : Message) (s : State) → slice_get s.mailbox w.f0.save ≡ Some m → s.left ≤ w.s0.left → Lower (rank (record w.f0 { window = Some m }) s) (rank w.f0 w.s0)
         → Steps w.open_in (Ssa.peek n) (tests e) (Some v) w.f0 w.s0 (seen w.o w.around w.here v m w.f0 s)
-    seen_steps n e v m s p l r = some_holds (λ a. Steps w.open_in (Ssa.peek n) (tests e) (Some v) w.f0 w.s0 (go_on a (pick true))) tt (w.o.write true v (term m.term) (w.o.forgets w.f0.store)) _ (λ st q. record {
+    seen_steps n e v m s p l r = some_holds (λ a. Steps w.open_in (Ssa.peek n) (tests e) (Some v) w.f0 w.s0 (go_on a (choose true))) tt (w.o.write true v (term m.term) (w.o.forgets w.f0.store)) _ (λ st q. record {
       low = l;
       tested = e;
       mode = refl;
@@ -300,7 +300,7 @@ module _ {S : Type 0} (w : Walk S) where
     -- Moves of the save place.
 
     moved_passes : (op : Op) (m : Mode) (dst : Option ℕ) (k : ℕ) (u : State) → after_op op (w.open_in w.f0.store) ≡ w.open_in w.f0.store → IsTrue (breaks_cycle op) → IsFalse (is_peek op) → w.f0.window ≡ None → u.left ≡ w.s0.left
-        → Steps w.open_in op m dst w.f0 w.s0 (on (record w.f0 { save = k }) u)
+        → Steps w.open_in op m dst w.f0 w.s0 (next (record w.f0 { save = k }) u)
     moved_passes op m dst k u a b c q l = record {
       low = omega (arith, l);
       handlers = sym a;

@@ -16,8 +16,8 @@ use Rattle.world_model.specs.Receive.{Timeout, now, in', wrong, timeout_of, with
 use Rattle.step_machine.specs.Bodies.{Here}
 use Rattle.step_machine.specs.EntryBound.{Lowers}
 use Rattle.step_machine.specs.Frames.{MatchContext}
-use Rattle.ssa_form.specs.Storage.{Held, term, context, position, marker, Handler, Leaving, calls, ends_body, Storage, Frame, After, on, pick, up, over, Mode, plain, tail, jump, tests, Around, go_on, when, if_some, outside, inside, kept, in_window}
-use Rattle.ssa_form.specs.Values.{handed, raises_always, puts_of, is_tail}
+use Rattle.ssa_form.specs.Storage.{Held, term, context, position, marker, Handler, Leaving, calls, ends_body, Storage, Frame, After, next, choose, raise, finish, Mode, plain, tail, jump, tests, Around, go_on, when, if_some, outside, inside, kept, in_window}
+use Rattle.ssa_form.specs.Values.{handed, never_returns, puts_of, is_tail}
 use Rattle.ssa_form.specs.SetFacts.{is_tests}
 use Rattle.ssa_form.specs.Operations.{put, collected, forgotten, gives_held, asked, found, answers, leaving, follows, ends_with, calls_by, leaving_of, local_does, remote_does, fun_does, send_does, raise_does, cons_does, map_does, option_held, key_does, element_does, cell_does, fun_made, start_does, with_context, at_context, took, takes_segment, restore_does, take_does, skip_does, waited, waits_for, wait_does, bind_does}
 use Rattle.ssa_form.proofs.Rank.{by_left, by_replies, by_mailbox, by_ahead, AtMost, lower, same, most_twice, closed, rank, Fits}
@@ -32,14 +32,14 @@ pub record Eases {S : Type 0} (open_in : S → List Handler) (f : Frame S) (s : 
 
 -- what follows a set that is quiet in this sense, where it may raise or not
 abbrev pub Quiet : {S : Type 0} → (S → List Handler) → Mode → Bool → Frame S → State → After S → Type 0
-Quiet open_in m r f s (on g u) = Eases open_in f s g u
-Quiet open_in m r f s (pick c g u) = IsTrue (is_tests m) × Eases open_in f s g u
-Quiet open_in m r f s (up c e g u) = IsTrue r × (u.left ≤ s.left) × (open_in g.store ≡ open_in f.store)
-Quiet open_in m r f s (over u q) = u.left ≤ s.left
+Quiet open_in m r f s (next g u) = Eases open_in f s g u
+Quiet open_in m r f s (choose c g u) = IsTrue (is_tests m) × Eases open_in f s g u
+Quiet open_in m r f s (raise c e g u) = IsTrue r × (u.left ≤ s.left) × (open_in g.store ≡ open_in f.store)
+Quiet open_in m r f s (finish u q) = u.left ≤ s.left
 Quiet open_in m r f s After.bad = Unit {0}
 
 abbrev pub OnlyOn : {S : Type 0} → (S → List Handler) → Frame S → State → After S → Type 0
-OnlyOn open_in f s (on g u) = Eases open_in f s g u
+OnlyOn open_in f s (next g u) = Eases open_in f s g u
 OnlyOn open_in f s After.bad = Unit {0}
 OnlyOn open_in f s _ = ⊥
 
@@ -163,23 +163,23 @@ module _ {S : Type 0} (w : Walk S) where
   put_only None h f s e = e
   put_only (Some v) h f s e = written (w.o.write (in_window f) v h f.store) (λ st p. w.tracks.writes (in_window f) v h f.store st p)
     where
-      written : (x : Option S) → ((st : S) → x ≡ Some st → w.open_in st ≡ w.open_in f.store) → OnlyOn w.open_in w.f0 w.s0 (if_some x (λ st. on (kept f st) s))
+      written : (x : Option S) → ((st : S) → x ≡ Some st → w.open_in st ≡ w.open_in f.store) → OnlyOn w.open_in w.f0 w.s0 (if_some x (λ st. next (kept f st) s))
       written None k = tt
       written (Some st) k = kept_eased f s st e (k st refl)
 
   pub only_quiet : (m : Mode) (r : Bool) (a : After S) → OnlyOn w.open_in w.f0 w.s0 a → Q m r a
-  only_quiet m r (on g u) h = h
+  only_quiet m r (next g u) h = h
   only_quiet m r After.bad h = tt
-  only_quiet m r (pick c g u) h = absurd h
-  only_quiet m r (up c x g u) h = absurd h
-  only_quiet m r (over u q) h = absurd h
+  only_quiet m r (choose c g u) h = absurd h
+  only_quiet m r (raise c x g u) h = absurd h
+  only_quiet m r (finish u q) h = absurd h
 
   pub then_quiet : (m : Mode) (r : Bool) (a : After S) (k : Frame S → State → After S) → OnlyOn w.open_in w.f0 w.s0 a → ((g : Frame S) (u : State) → Eased g u → Q m r (k g u)) → Q m r (go_on a k)
-  then_quiet m r (on g u) k h i = i g u h
+  then_quiet m r (next g u) k h i = i g u h
   then_quiet m r After.bad k h i = tt
-  then_quiet m r (pick c g u) k h i = absurd h
-  then_quiet m r (up c x g u) k h i = absurd h
-  then_quiet m r (over u q) k h i = absurd h
+  then_quiet m r (choose c g u) k h i = absurd h
+  then_quiet m r (raise c x g u) k h i = absurd h
+  then_quiet m r (finish u q) k h i = absurd h
 
   pub put_quiet : (m : Mode) (r : Bool) (dst : Option ℕ) (h : Held) (f : Frame S) (s : State) → Eased f s → Q m r (put w.o w.around w.here dst h f s)
   put_quiet m r dst h f s e = only_quiet m r (put w.o w.around w.here dst h f s) (put_only dst h f s e)
@@ -252,7 +252,7 @@ module _ {S : Type 0} (w : Walk S) where
         calls_quiet m true m calls dst _ f s (call_spends w.around w.here lowers n (is_tail m) vs) (λ c y q. refl) e))
 
     pub remote_quiet : (m : Mode) (dst : Option ℕ) (vs : Values) (f : Frame S) (s : State) → Eased f s → Q m true (remote_does w.o w.around w.here m dst vs f s)
-    remote_quiet m dst (t ∷ g ∷ vs) f s e = calls_quiet m true m (leaving_of w.o w.around w.here (raises_always t g (length vs))) dst _ f s (remote_spends w.here.own t g vs) (λ c y q. refl) e
+    remote_quiet m dst (t ∷ g ∷ vs) f s e = calls_quiet m true m (leaving_of w.o w.around w.here (never_returns t g (length vs))) dst _ f s (remote_spends w.here.own t g vs) (λ c y q. refl) e
     remote_quiet m dst [] f s e = tt
     remote_quiet m dst (t ∷ []) f s e = tt
 

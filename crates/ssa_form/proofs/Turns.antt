@@ -11,12 +11,12 @@ use Rattle.step_machine.specs.Bodies.{Here}
 use Rattle.step_machine.specs.EntryBound.{Lowers}
 use Rattle.ssa_form.specs.Ssa as Ssa
 use Rattle.ssa_form.specs.Ssa.{Op, Set, Last, br, succeeded, switch, ret, Block, Body, block_at}
-use Rattle.ssa_form.specs.Storage.{Held, unset, term, context, position, marker, Handler, ends_body, Storage, Frame, After, on, pick, up, over, Ended, done, unfinished, Around, go_on, when, if_some, kept}
+use Rattle.ssa_form.specs.Storage.{Held, unset, term, context, position, marker, Handler, ends_body, Storage, Frame, After, next, choose, raise, finish, Ended, done, unfinished, Around, go_on, when, if_some, kept}
 use Rattle.ssa_form.specs.SetFacts.{given_vars, is_peek, breaks_cycle}
-use Rattle.ssa_form.specs.Flow.{point, last_in, last_at, last_of, targets, goes, Reached, Passing, one, Effect, entering, Step, leads, succeeds, fails, raises}
+use Rattle.ssa_form.specs.Flow.{point, last_in, last_at, last_of, targets, goes, Reached, Passing, one, Effect, along_edge, Step, leads, succeeds, fails, raises}
 use Rattle.ssa_form.specs.WellFormed.{any_op, block_has, any_has, tests_nothing, lands_for, is_landing_for}
 use Rattle.ssa_form.specs.Operations.{held, forgotten}
-use Rattle.ssa_form.specs.SsaRun.{Raised, lands, ends_catch, truth_of, picked, choice_of, landed, put_each, phi_values, begins, entered_by, goes_by, switched, ended, returned, leave_on, leave_pick, raised_to, either_end, unless_looking, leave, block_does, blocks, first_handler}
+use Rattle.ssa_form.specs.SsaRun.{Raised, lands, ends_catch, truth_in, picked, choice_of, landed, put_each, phi_values, begins, entered_by, goes_by, switched, ended, returned, leave_next, leave_choose, raised_to, either_end, unless_looking, leave, block_does, blocks, first_handler}
 use Rattle.ssa_form.proofs.Rank.{Lower, AtMost, rank, Fits}
 use Rattle.ssa_form.proofs.OpenHandlers.{Tracks, some_is}
 use Rattle.ssa_form.proofs.OpTurns.{eased, some_holds, when_holds, outside_holds, none_some}
@@ -175,9 +175,9 @@ module _ {S : Type 0} (o : Storage S) (around : Around) (here : Here) (lowers : 
       goes_turn a t e (Some v) l p h = leads_turn (br a t e) (picked v t e) l refl (picked_in v t e) p h
 
       branch_turn : (a t e : _) (v : Bool) → x.last ≡ br a t e → Through b c.at x there open_in x.chain c.frame c.state g u
-          → ((j : ℕ) → runs (suc j) c ≡ either_end v (blocks o around here b j None c.at t g u) (goes_by o around here (truth_of (held o around here g a)) (blocks o around here b j) c.at t e g u)) → Turn c
+          → ((j : ℕ) → runs (suc j) c ≡ either_end v (blocks o around here b j None c.at t g u) (goes_by o around here (truth_in (held o around here g a)) (blocks o around here b j) c.at t e g u)) → Turn c
       branch_turn a t e true l p h = leads_turn (br a t e) t l refl (here_in t (e ∷ [])) p h
-      branch_turn a t e false l p h = goes_turn a t e (truth_of (held o around here g a)) l p h
+      branch_turn a t e false l p h = goes_turn a t e (truth_in (held o around here g a)) l p h
 
       switch_turn : (a : Ssa.Arg) (d : ℕ) (cs : List (Term × ℕ)) (v : Held) → x.last ≡ switch a d cs → Through b c.at x there open_in x.chain c.frame c.state g u
           → ((j : ℕ) → runs (suc j) c ≡ switched o around here v (blocks o around here b j) c.at d cs g u) → Turn c
@@ -200,7 +200,7 @@ module _ {S : Type 0} (o : Storage S) (around : Around) (here : Here) (lowers : 
       returned_ends (marker n) l = (bad_is, tt)
 
       on_turn : (l : Last) → x.last ≡ l → Through b c.at x there open_in x.chain c.frame c.state g u
-          → ((j : ℕ) → runs (suc j) c ≡ leave_on o around here (blocks o around here b j) c.at l g u) → Turn c
+          → ((j : ℕ) → runs (suc j) c ≡ leave_next o around here (blocks o around here b j) c.at l g u) → Turn c
       on_turn (br a t e) l p h = branch_turn a t e (eqb t e) l p h
       on_turn (succeeded v t e) l p h = is_bad c h
       on_turn (switch a d cs) l p h = switch_turn a d cs (held o around here g a) l p h
@@ -209,13 +209,13 @@ module _ {S : Type 0} (o : Storage S) (around : Around) (here : Here) (lowers : 
       -- by the success of a set
 
       pick_turn : (v : Bool) (l : Last) → x.last ≡ l → (p : Chosen b c.at x there open_in x.chain c.frame c.state v g u) → Tested [] l p.tested
-          → ((j : ℕ) → runs (suc j) c ≡ leave_pick o around here (blocks o around here b j) c.at l v g u) → Turn c
+          → ((j : ℕ) → runs (suc j) c ≡ leave_choose o around here (blocks o around here b j) c.at l v g u) → Turn c
       pick_turn true l e p t h = enters_next t.holds p.at p.before _ g u p.reached
-          (subst (λ hs. Step b (point c.at p.at) p.before (point t.holds 0) hs (entering b c.at t.holds (given_vars p.by))) (sym p.handlers) (succeeds (point c.at p.at) p.before p.by t.var t.holds p.tested p.is_there (ap last_of there ∙ ap (λ y. Some y) (e ∙ t.last))))
-          p.fits p.low p.falls p.looks (λ j. h j ∙ ap (λ y. leave_pick o around here (blocks o around here b j) c.at y true g u) t.last)
+          (subst (λ hs. Step b (point c.at p.at) p.before (point t.holds 0) hs (along_edge b c.at t.holds (given_vars p.by))) (sym p.handlers) (succeeds (point c.at p.at) p.before p.by t.var t.holds p.tested p.is_there (ap last_of there ∙ ap (λ y. Some y) (e ∙ t.last))))
+          p.fits p.low p.falls p.looks (λ j. h j ∙ ap (λ y. leave_choose o around here (blocks o around here b j) c.at y true g u) t.last)
       pick_turn false l e p t h = enters_next p.tested p.at p.before _ g u p.reached
-          (subst (λ hs. Step b (point c.at p.at) p.before (point p.tested 0) hs (entering b c.at p.tested [])) (sym p.handlers) (fails (point c.at p.at) p.before p.by p.tested p.is_there (p.starts refl)))
-          p.fits p.low p.falls p.looks (λ j. h j ∙ ap (λ y. leave_pick o around here (blocks o around here b j) c.at y false g u) t.last)
+          (subst (λ hs. Step b (point c.at p.at) p.before (point p.tested 0) hs (along_edge b c.at p.tested [])) (sym p.handlers) (fails (point c.at p.at) p.before p.by p.tested p.is_there (p.starts refl)))
+          p.fits p.low p.falls p.looks (λ j. h j ∙ ap (λ y. leave_choose o around here (blocks o around here b j) c.at y false g u) t.last)
 
   -- A raise.
 
@@ -250,11 +250,11 @@ module _ {S : Type 0} (o : Storage S) (around : Around) (here : Here) (lowers : 
         reached : Reached b (point c.at p.at) (h ∷ is')
         reached = subst (Reached b (point c.at p.at)) e p.reached
 
-        raised : Step b (point c.at p.at) (h ∷ is') (point h.landing 0) is' (entering b c.at h.landing [])
+        raised : Step b (point c.at p.at) (h ∷ is') (point h.landing 0) is' (along_edge b c.at h.landing [])
         raised = raises (point c.at p.at) h is' p.by p.mode p.is_there p.may
 
         into_landing : Reached b (point h.landing 0) is'
-        into_landing = into c x there h.landing p.at (h ∷ is') is' (entering b c.at h.landing []) reached raised
+        into_landing = into c x there h.landing p.at (h ∷ is') is' (along_edge b c.at h.landing []) reached raised
 
         breaks_in : (y : Option Block) → IsTrue (is_landing_for h.tag y) → IsTrue (block_has breaks_cycle y)
         breaks_in None q = absurd cc
@@ -282,10 +282,10 @@ module _ {S : Type 0} (o : Storage S) (around : Around) (here : Here) (lowers : 
 
   leave_turn : (c : Config S) (x : Block) (there : block_at b c.at ≡ Some x) (a : After S) → Chained b c.at x there open_in x.chain c.frame c.state a
       → ((j : ℕ) → runs (suc j) c ≡ leave o around here (blocks o around here b j) c.at x.last a) → Turn c
-  leave_turn c x there (on g u) p i = on_turn c x there g u x.last refl p i
-  leave_turn c x there (pick v g u) p i = pick_turn c x there g u v x.last refl p p.last i
-  leave_turn c x there (up k r g u) p i = looking_turn c x there g u g.window k r refl p i
-  leave_turn c x there (over u q) p i = is_done c u q p i
+  leave_turn c x there (next g u) p i = on_turn c x there g u x.last refl p i
+  leave_turn c x there (choose v g u) p i = pick_turn c x there g u v x.last refl p p.last i
+  leave_turn c x there (raise k r g u) p i = looking_turn c x there g u g.window k r refl p i
+  leave_turn c x there (finish u q) p i = is_done c u q p i
   leave_turn c x there After.bad p i = is_bad c i
 
   pub turn : (c : Config S) → Good c → Turn c

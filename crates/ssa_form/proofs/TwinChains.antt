@@ -10,7 +10,7 @@ use Rattle.step_machine.specs.EntryBound.{Lowers}
 use Rattle.step_machine.specs.Frames.{MatchContext}
 use Rattle.ssa_form.specs.Ssa as Ssa
 use Rattle.ssa_form.specs.Ssa.{Arg, var, lit, Op, FrameAction, Set, Last, Block, Body, block_at, or_none}
-use Rattle.ssa_form.specs.Storage.{Held, term, Handler, Frame, After, on, pick, up, over, Mode, tests, Around, go_on}
+use Rattle.ssa_form.specs.Storage.{Held, term, Handler, Frame, After, next, choose, raise, finish, Mode, tests, Around, go_on}
 use Rattle.ssa_form.specs.SetFacts.{arg_vars, dst_vars, given_vars, gives_nothing, is_try_start, all_among, none_among, names_handler, may_raise, is_tests}
 use Rattle.ssa_form.specs.Flow.{Point, point, set_from, set_in, set_at, last_at, after_op, setting, Way, goes, passes}
 use Rattle.ssa_form.specs.Liveness.{set_vars, end_vars, value_vars}
@@ -173,10 +173,10 @@ module _ (b : Body) (n : ℕ) (x : Block) (there : block_at b n ≡ Some x) wher
     pub alike : Alike b vars X Y
 
   pub data Twins : After Vars → After Vars → Type 0 where
-    twin_on : (X Y : ℕ → Held) (c : List MatchContext) (k : ℕ) (w : Option Message) (hs : List Handler) (s : State) → Ends X Y hs → Fits (fr X c k w hs) s → Twins (on (fr X c k w hs) s) (on (fr Y c k w hs) s)
-    twin_pick : (v : Bool) (X Y : ℕ → Held) (c : List MatchContext) (k : ℕ) (w : Option Message) (hs : List Handler) (s : State) → Chose v X Y hs → Fits (fr X c k w hs) s → Twins (pick v (fr X c k w hs) s) (pick v (fr Y c k w hs) s)
-    twin_up : (q : Class) (r : Term) (X Y : ℕ → Held) (c : List MatchContext) (k : ℕ) (w : Option Message) (hs : List Handler) (s : State) → Rose X Y hs → Twins (up q r (fr X c k w hs) s) (up q r (fr Y c k w hs) s)
-    twin_over : (s : State) (q : Outcome Term) → Twins (over s q) (over s q)
+    twin_on : (X Y : ℕ → Held) (c : List MatchContext) (k : ℕ) (w : Option Message) (hs : List Handler) (s : State) → Ends X Y hs → Fits (fr X c k w hs) s → Twins (next (fr X c k w hs) s) (next (fr Y c k w hs) s)
+    twin_pick : (v : Bool) (X Y : ℕ → Held) (c : List MatchContext) (k : ℕ) (w : Option Message) (hs : List Handler) (s : State) → Chose v X Y hs → Fits (fr X c k w hs) s → Twins (choose v (fr X c k w hs) s) (choose v (fr Y c k w hs) s)
+    twin_up : (q : Class) (r : Term) (X Y : ℕ → Held) (c : List MatchContext) (k : ℕ) (w : Option Message) (hs : List Handler) (s : State) → Rose X Y hs → Twins (raise q r (fr X c k w hs) s) (raise q r (fr Y c k w hs) s)
+    twin_over : (s : State) (q : Outcome Term) → Twins (finish s q) (finish s q)
     twin_bad : Twins After.bad After.bad
 
   -- where the rest of a chain begins

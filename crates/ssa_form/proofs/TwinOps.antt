@@ -18,9 +18,9 @@ use Rattle.step_machine.specs.Bodies.{Here, callees}
 use Rattle.step_machine.specs.Frames.{MatchContext, rest_of}
 use Rattle.ssa_form.specs.Ssa as Ssa
 use Rattle.ssa_form.specs.Ssa.{Arg, var, lit, Op}
-use Rattle.ssa_form.specs.Checks.{holds}
-use Rattle.ssa_form.specs.Storage.{Held, unset, term, context, position, marker, Handler, Leaving, calls, ends_body, always_raises, Frame, After, on, pick, up, over, Mode, plain, tail, jump, tests, Around, go_on, when, if_some, outside}
-use Rattle.ssa_form.specs.Values.{terms_of, handed, raises_always, puts_of, parts_of, is_tail}
+use Rattle.ssa_form.specs.Checks.{check_holds}
+use Rattle.ssa_form.specs.Storage.{Held, unset, term, context, position, marker, Handler, Leaving, calls, ends_body, always_raises, Frame, After, next, choose, raise, finish, Mode, plain, tail, jump, tests, Around, go_on, when, if_some, outside}
+use Rattle.ssa_form.specs.Values.{terms_of, handed, never_returns, puts_of, parts_of, is_tail}
 use Rattle.ssa_form.specs.SetFacts.{gives_nothing, is_try_start, names_handler}
 use Rattle.ssa_form.specs.SsaRun.{Vars, in_vars, no_handlers, only_if, without_first, with_handlers}
 use Rattle.ssa_form.specs.Operations.{put, collected, gives_held, asked, found, answers, leaving, follows, ends_with, calls_by, leaving_of, local_does, remote_does, fun_does, send_does, raise_does, cons_does, map_does, option_held, key_does, element_does, cell_does, fun_made, start_does, with_context, at_context, took, takes_segment, restore_does, open_does, close_does, seen, seen_or, looks, peek_does, take_does, skip_does, waited, waits_for, wait_does, bind_does, use_does, on_terms, does}
@@ -37,10 +37,10 @@ module _ (V W : ℕ → Held) (d : Option ℕ) (wr : Bool) where
   Wrote X Y = (v : ℕ) → d ≡ Some v → X v ≡ Y v
 
   pub data Both : After Vars → After Vars → Type 0 where
-    both_on : (X Y : ℕ → Held) (c : List MatchContext) (n : ℕ) (w : Option Message) (hs : List Handler) (s : State) → Like X Y → (IsTrue wr → Wrote X Y) → Both (on (fr X c n w hs) s) (on (fr Y c n w hs) s)
-    both_pick : (b : Bool) (X Y : ℕ → Held) (c : List MatchContext) (n : ℕ) (w : Option Message) (hs : List Handler) (s : State) → Like X Y → (IsTrue wr → IsTrue b → Wrote X Y) → Both (pick b (fr X c n w hs) s) (pick b (fr Y c n w hs) s)
-    both_up : (k : Class) (r : Term) (X Y : ℕ → Held) (c : List MatchContext) (n : ℕ) (w : Option Message) (hs : List Handler) (s : State) → Like X Y → Both (up k r (fr X c n w hs) s) (up k r (fr Y c n w hs) s)
-    both_over : (s : State) (q : Outcome Term) → Both (over s q) (over s q)
+    both_on : (X Y : ℕ → Held) (c : List MatchContext) (n : ℕ) (w : Option Message) (hs : List Handler) (s : State) → Like X Y → (IsTrue wr → Wrote X Y) → Both (next (fr X c n w hs) s) (next (fr Y c n w hs) s)
+    both_pick : (b : Bool) (X Y : ℕ → Held) (c : List MatchContext) (n : ℕ) (w : Option Message) (hs : List Handler) (s : State) → Like X Y → (IsTrue wr → IsTrue b → Wrote X Y) → Both (choose b (fr X c n w hs) s) (choose b (fr Y c n w hs) s)
+    both_up : (k : Class) (r : Term) (X Y : ℕ → Held) (c : List MatchContext) (n : ℕ) (w : Option Message) (hs : List Handler) (s : State) → Like X Y → Both (raise k r (fr X c n w hs) s) (raise k r (fr Y c n w hs) s)
+    both_over : (s : State) (q : Outcome Term) → Both (finish s q) (finish s q)
     both_bad : Both After.bad After.bad
 
 module _ (around : Around) (here : Here) (V W : ℕ → Held) (d : Option ℕ) (wr : Bool) where
@@ -79,7 +79,7 @@ module _ (around : Around) (here : Here) (V W : ℕ → Held) (d : Option ℕ) (
       by_dst None p = both_on V W c n w hs s (λ v e. e) (λ t v q. let z : None ≡ Some v = sym p ∙ q in absurd cc)
       by_dst (Some x) p = both_on (λ v. if eqb v x then h else V v) (λ v. if eqb v x then h else W v) c n w hs s (write_like x) (λ t v q. let z : Some x ≡ Some v = sym p ∙ q in let y : x ≡ v = cc in written x v (eqb v x) (eq-eqb v x (sym y)))
 
-  picked_both : (a z : After Vars) → B a z → B (go_on a (pick true)) (go_on z (pick true))
+  picked_both : (a z : After Vars) → B a z → B (go_on a (choose true)) (go_on z (choose true))
   picked_both _ _ (both_on X Y c n w hs s h i) = both_pick true X Y c n w hs s h (λ t u. i t)
   picked_both _ _ (both_pick b X Y c n w hs s h i) = both_pick b X Y c n w hs s h i
   picked_both _ _ (both_up k r X Y c n w hs s h) = both_up k r X Y c n w hs s h
@@ -87,13 +87,13 @@ module _ (around : Around) (here : Here) (V W : ℕ → Held) (d : Option ℕ) (
   picked_both _ _ both_bad = both_bad
 
   -- nothing is written where nothing has to be
-  same_on : (c : List MatchContext) (n : ℕ) (w : Option Message) (hs : List Handler) (s : State) → (IsTrue wr → ⊥) → B (on (fr V c n w hs) s) (on (fr W c n w hs) s)
+  same_on : (c : List MatchContext) (n : ℕ) (w : Option Message) (hs : List Handler) (s : State) → (IsTrue wr → ⊥) → B (next (fr V c n w hs) s) (next (fr W c n w hs) s)
   same_on c n w hs s dry = both_on V W c n w hs s (λ v e. e) (λ t. absurd (dry t))
 
-  same_pick : (b : Bool) (c : List MatchContext) (n : ℕ) (w : Option Message) (hs : List Handler) (s : State) → (IsTrue wr → IsTrue b → ⊥) → B (pick b (fr V c n w hs) s) (pick b (fr W c n w hs) s)
+  same_pick : (b : Bool) (c : List MatchContext) (n : ℕ) (w : Option Message) (hs : List Handler) (s : State) → (IsTrue wr → IsTrue b → ⊥) → B (choose b (fr V c n w hs) s) (choose b (fr W c n w hs) s)
   same_pick b c n w hs s dry = both_pick b V W c n w hs s (λ v e. e) (λ t u. absurd (dry t u))
 
-  same_up : (k : Class) (r : Term) (c : List MatchContext) (n : ℕ) (w : Option Message) (hs : List Handler) (s : State) → B (up k r (fr V c n w hs) s) (up k r (fr W c n w hs) s)
+  same_up : (k : Class) (r : Term) (c : List MatchContext) (n : ℕ) (w : Option Message) (hs : List Handler) (s : State) → B (raise k r (fr V c n w hs) s) (raise k r (fr W c n w hs) s)
   same_up k r c n w hs s = both_up k r V W c n w hs s (λ v e. e)
 
   module _ (n : ℕ) (w : Option Message) (hs : List Handler) where
@@ -168,7 +168,7 @@ module _ (around : Around) (here : Here) (V W : ℕ → Held) (d : Option ℕ) (
     local_both k m vs c s = when_both (takes (slice_get around.arities k) (length vs)) _ _ (some_both (handed (is_tail m) c around.reached k vs) _ _ (λ ts. calls_both m calls _ c s))
 
     remote_both : (m : Mode) (vs : Values) (c : List MatchContext) (s : State) → B (remote_does in_vars around here m d vs (one V c) s) (remote_does in_vars around here m d vs (one W c) s)
-    remote_both m (t ∷ g ∷ vs) c s = calls_both m (leaving_of in_vars around here (raises_always t g (length vs))) _ c s
+    remote_both m (t ∷ g ∷ vs) c s = calls_both m (leaving_of in_vars around here (never_returns t g (length vs))) _ c s
     remote_both m [] c s = both_bad
     remote_both m (t ∷ []) c s = both_bad
 
@@ -282,7 +282,7 @@ module _ (around : Around) (here : Here) (V W : ℕ → Held) (d : Option ℕ) (
     close_both : (as' : List Arg) (c : List MatchContext) (s : State) → (IsTrue wr → ⊥) → B (close_does in_vars around here as' (one V c) s) (close_does in_vars around here as' (one W c) s)
     close_both (var v ∷ []) c s dry = outside_both w (one V c) (one W c) _ _ refl refl (closing (without_first v hs))
       where
-        closing : (x : Option (List Handler)) → B (if_some (with_handlers (one V c).store x) (λ st. on (record (one V c) { store = st }) s)) (if_some (with_handlers (one W c).store x) (λ st. on (record (one W c) { store = st }) s))
+        closing : (x : Option (List Handler)) → B (if_some (with_handlers (one V c).store x) (λ st. next (record (one V c) { store = st }) s)) (if_some (with_handlers (one W c).store x) (λ st. next (record (one W c) { store = st }) s))
         closing None = both_bad
         closing (Some is') = same_on c n w is' s dry
     close_both _ c s dry = both_bad
@@ -311,7 +311,7 @@ module _ (around : Around) (here : Here) (V W : ℕ → Held) (d : Option ℕ) (
     skip_both (tests e) v c s dry = both_bad
 
     seen_both : (v : ℕ) (x : Message) (c : List MatchContext) (s : State) → d ≡ Some v → B (seen in_vars around here v x (one V c) s) (seen in_vars around here v x (one W c) s)
-    seen_both v x c s p = subst (λ z. B (go_on (put in_vars around here z (term x.term) (fr V c n (Some x) hs) s) (pick true)) (go_on (put in_vars around here z (term x.term) (fr W c n (Some x) hs) s) (pick true))) p
+    seen_both v x c s p = subst (λ z. B (go_on (put in_vars around here z (term x.term) (fr V c n (Some x) hs) s) (choose true)) (go_on (put in_vars around here z (term x.term) (fr W c n (Some x) hs) s) (choose true))) p
         (picked_both _ _ (put_both (term x.term) c n (Some x) hs s))
 
     seen_or_both : (v : ℕ) (c : List MatchContext) (s : State) (a z : After Vars) → d ≡ Some v → B a z → B (seen_or in_vars around here v (one V c) s a) (seen_or in_vars around here v (one W c) s z)
@@ -360,7 +360,7 @@ module _ (around : Around) (here : Here) (V W : ℕ → Held) (d : Option ℕ) (
   terms_both (Ssa.element k) m vs = element_both around here V W d true n w hs k vs c s
   terms_both Ssa.hd m vs = cell_both around here V W d true n w hs true vs c s
   terms_both Ssa.tl m vs = cell_both around here V W d true n w hs false vs c s
-  terms_both (Ssa.check k) m vs = some_both around here V W d false (holds k vs) _ _ (λ b. asked_both around here V W d false n w hs m b c s (λ t u. dry_of false refl t))
+  terms_both (Ssa.check k) m vs = some_both around here V W d false (check_holds k vs) _ _ (λ b. asked_both around here V W d false n w hs m b c s (λ t u. dry_of false refl t))
   terms_both (Ssa.make_fun k) m vs = fun_made_both around here V W d true n w hs k vs c s
   terms_both Ssa.call_fun m vs = fun_both around here V W d true n w hs vs c s
   terms_both Ssa.call_remote m vs = remote_both around here V W d true n w hs m vs c s

@@ -14,15 +14,15 @@ use Rattle.step_machine.specs.Bodies.{Here}
 use Rattle.step_machine.specs.EntryBound.{Lowers}
 use Rattle.step_machine.specs.Frames.{MatchContext}
 use Rattle.ssa_form.specs.Ssa.{Arg, Set, Last, br, succeeded, switch, ret, Phi, Block, Body, block_at}
-use Rattle.ssa_form.specs.Storage.{Held, unset, term, context, position, marker, Handler, Frame, After, over, Ended, Around, go_on, when, if_some}
+use Rattle.ssa_form.specs.Storage.{Held, unset, term, context, position, marker, Handler, Frame, After, finish, Ended, Around, go_on, when, if_some}
 use Rattle.ssa_form.specs.SetFacts.{arg_vars, given_vars, all_among, none_among}
-use Rattle.ssa_form.specs.Flow.{point, set_at, last_in, last_at, last_of, targets, phis_at, phi_vars, edge_vars, phi_reads, after_op, entering, Way, goes, begins, Step, leads, succeeds, fails, raises}
+use Rattle.ssa_form.specs.Flow.{point, set_at, last_in, last_at, last_of, targets, phis_at, phi_vars, edge_vars, phi_reads, after_op, along_edge, Way, goes, begins, Step, leads, succeeds, fails, raises}
 use Rattle.ssa_form.specs.Liveness.{set_vars, end_vars, last_vars, value_vars}
 use Rattle.ssa_form.specs.WellFormed.{WellFormed, tests_nothing, tags_in}
 use Rattle.ssa_form.specs.Operations.{held, put, follows}
 use Rattle.ssa_form.specs.RunLaws.{beside_params, UnsetIsNeverSeen}
 use Rattle.ssa_form.specs.SsaRun as Run
-use Rattle.ssa_form.specs.SsaRun.{Raised, Vars, in_vars, lands, ends_catch, chain_does, arg_held, if_set, with_phi, phi_values, put_each, closed, catches, landed, from_edge, truth_of, picked, choice_of, goes_by, switched, ended, returned, leave_on, leave_pick, raised_to, either_end, unless_looking, leave, entered_by, block_does, blocks, params_hold, ssa_run, first_handler, no_handlers}
+use Rattle.ssa_form.specs.SsaRun.{Raised, Vars, in_vars, lands, ends_catch, chain_does, arg_held, if_set, with_phi, phi_values, put_each, closed, catches, landed, from_edge, truth_in, picked, choice_of, goes_by, switched, ended, returned, leave_next, leave_choose, raised_to, either_end, unless_looking, leave, entered_by, block_does, blocks, params_hold, ssa_run, first_handler, no_handlers}
 use Rattle.ssa_form.proofs.Rank.{Fits}
 use Rattle.ssa_form.proofs.OpenHandlers.{some_is, none_is}
 use Rattle.ssa_form.proofs.OpTurns.{and_first}
@@ -54,7 +54,7 @@ module _ (around : Around) (here : Here) (P : After Vars → After Vars → Type
       written v false e = absurd cc
 
   caught_then : (d : Option ℕ) (q : Class) (r : Term) (X Y : ℕ → Held) (c : List MatchContext) (i : ℕ) (w : Option Message) (hs : List Handler) (s : State) (k z : Frame Vars → State → After Vars)
-      → ((u : State) (o : Outcome Term) → P (over u o) (over u o))
+      → ((u : State) (o : Outcome Term) → P (finish u o) (finish u o))
       → ((u : State) (X1 Y1 : ℕ → Held) → ((v : ℕ) → X v ≡ Y v → X1 v ≡ Y1 v) → ((v : ℕ) → d ≡ Some v → X1 v ≡ Y1 v) → P (k (fr X1 c i w hs) u) (z (fr Y1 c i w hs) u))
       → P (go_on (follows in_vars around here d (fr X c i w hs) (exit_of q r s)) k) (go_on (follows in_vars around here d (fr Y c i w hs) (exit_of q r s)) z)
   caught_then d T.throw r X Y c i w hs s k z o f = put_then d _ X Y c i w hs s k z (f s)
@@ -211,18 +211,18 @@ module _ (b : Body) (around : Around) (here : Here) (lowers : Lowers here.enter)
     pub reads : IsTrue (all_among (phi_reads (phis_at b n) from) before)
     pub values : IsTrue (none_among (phi_reads (phis_at b n) from) (tags_in b.blocks))
 
-  arrives_by : (n m k : ℕ) (hs is' : List Handler) (sets vs : List ℕ) (X Y : ℕ → Held) (now : List Handler) (e : Option Raised) → Way b (point n k) vs hs → Step b (point n k) hs (point m 0) is' (entering b n m sets) → Alike b (sets ++ vs) X Y → Opened e now is' → Arrives n m e X Y now
+  arrives_by : (n m k : ℕ) (hs is' : List Handler) (sets vs : List ℕ) (X Y : ℕ → Held) (now : List Handler) (e : Option Raised) → Way b (point n k) vs hs → Step b (point n k) hs (point m 0) is' (along_edge b n m sets) → Alike b (sets ++ vs) X Y → Opened e now is' → Arrives n m e X Y now
   arrives_by n m k hs is' sets vs X Y now e way step alike opened = record {
     before = sets ++ vs;
     inner = is';
     opened = opened;
-    way = subst (λ ws. Way b (point m 0) ws is') (append_assoc (phi_vars (phis_at b m)) sets vs) (goes (point n k) (point m 0) vs hs is' (entering b n m sets) way step);
+    way = subst (λ ws. Way b (point m 0) ws is') (append_assoc (phi_vars (phis_at b m)) sets vs) (goes (point n k) (point m 0) vs hs is' (along_edge b n m sets) way step);
     alike = alike;
-    reads = formed.edges (point n k) (point m 0) vs hs is' (entering b n m sets) way step;
-    values = formed.edge_values (point n k) (point m 0) hs is' (entering b n m sets) (vs, way) step;
+    reads = formed.edges (point n k) (point m 0) vs hs is' (along_edge b n m sets) way step;
+    values = formed.edge_values (point n k) (point m 0) hs is' (along_edge b n m sets) (vs, way) step;
   }
 
-  -- what comes next is the same
+  -- what comes going is the same
   abbrev SameNext : (Option Raised → ℕ → ℕ → Frame Vars → State → Ended) → Type 0
   SameNext go = (e : Option Raised) (from n : ℕ) (X Y : ℕ → Held) (c : List MatchContext) (i : ℕ) (w : Option Message) (hs : List Handler) (s : State) → Arrives from n e X Y hs → Fits (fr X c i w hs) s
       → go e from n (fr X c i w hs) s ≡ go e from n (fr Y c i w hs) s
@@ -270,11 +270,11 @@ module _ (b : Body) (around : Around) (here : Here) (lowers : Lowers here.enter)
         at_end true e = refl
         at_end false e = absurd cc
 
-    module _ (go : Option Raised → ℕ → ℕ → Frame Vars → State → Ended) (next : SameNext go) (X Y : ℕ → Held) (c : List MatchContext) (i : ℕ) (w : Option Message) (hs : List Handler) (s : State) where
+    module _ (go : Option Raised → ℕ → ℕ → Frame Vars → State → Ended) (going : SameNext go) (X Y : ℕ → Held) (c : List MatchContext) (i : ℕ) (w : Option Message) (hs : List Handler) (s : State) where
       -- a target of the last
       goes_same : (l : Last) (m : ℕ) → x.last ≡ l → IsTrue (tests_nothing (Some l)) → Contains (targets l) m → Ends b n x there X Y hs → Fits (fr X c i w hs) s → go None n m (fr X c i w hs) s ≡ go None n m (fr Y c i w hs) s
       goes_same l m p t h e fits = let r : (vs : List ℕ) × Way b (point n (length x.chain)) vs hs × Alike b vs X Y = e (subst (λ y. IsTrue (tests_nothing (Some y))) (sym p) t) in
-          next None n m X Y c i w hs s (arrives_by n m (length x.chain) hs hs [] r.0 X Y hs None r.1 (leads (point n (length x.chain)) hs l m (last_is ∙ ap (λ y. Some y) p) h) r.2 refl) fits
+          going None n m X Y c i w hs s (arrives_by n m (length x.chain) hs hs [] r.0 X Y hs None r.1 (leads (point n (length x.chain)) hs l m (last_is ∙ ap (λ y. Some y) p) h) r.2 refl) fits
 
       -- what the last reads
       reads_same : (l : Last) (a : Arg) → x.last ≡ l → IsTrue (tests_nothing (Some l)) → last_vars l ≡ arg_vars (a ∷ []) → Ends b n x there X Y hs → held in_vars around here (fr X c i w hs) a ≡ held in_vars around here (fr Y c i w hs) a
@@ -302,7 +302,7 @@ module _ (b : Body) (around : Around) (here : Here) (lowers : Lowers here.enter)
       returned_same (term t) None = at_start (eqb i 0) (no_handlers hs)
         where
           leaves_so : Bool → Bool → (ℕ → Held) → After Vars
-          leaves_so p q Z = when p (if_some {A = Vars} {S = Vars} (Run.only_if {A = Vars} q (record { values = Z; handlers = hs })) (λ st. over s (gives t)))
+          leaves_so p q Z = when p (if_some {A = Vars} {S = Vars} (Run.only_if {A = Vars} q (record { values = Z; handlers = hs })) (λ st. finish s (gives t)))
 
           at_start : (p q : Bool) → ended in_vars around here (leaves_so p q X) ≡ ended in_vars around here (leaves_so p q Y)
           at_start true true = refl
@@ -313,20 +313,20 @@ module _ (b : Body) (around : Around) (here : Here) (lowers : Lowers here.enter)
       returned_same (position k) u = refl
       returned_same (marker k) u = refl
 
-      on_same : (l : Last) → x.last ≡ l → Ends b n x there X Y hs → Fits (fr X c i w hs) s → leave_on in_vars around here go n l (fr X c i w hs) s ≡ leave_on in_vars around here go n l (fr Y c i w hs) s
+      on_same : (l : Last) → x.last ≡ l → Ends b n x there X Y hs → Fits (fr X c i w hs) s → leave_next in_vars around here go n l (fr X c i w hs) s ≡ leave_next in_vars around here go n l (fr Y c i w hs) s
       on_same (br a t e) p h fits = λ j. either_end (eqb t e) (goes_same (br a t e) t p refl (here_in t (e ∷ [])) h fits j)
-          ((ap (λ v. goes_by in_vars around here (truth_of v) go n t e (fr X c i w hs) s) (reads_same (br a t e) a p refl refl h) ∙ branch_same a t e p h fits (truth_of (held in_vars around here (fr Y c i w hs) a))) j)
+          ((ap (λ v. goes_by in_vars around here (truth_in v) go n t e (fr X c i w hs) s) (reads_same (br a t e) a p refl refl h) ∙ branch_same a t e p h fits (truth_in (held in_vars around here (fr Y c i w hs) a))) j)
       on_same (succeeded v t e) p h fits = refl
       on_same (switch a d cs) p h fits = ap (λ v. switched in_vars around here v go n d cs (fr X c i w hs) s) (reads_same (switch a d cs) a p refl refl h) ∙ switch_same a d cs p h fits (held in_vars around here (fr Y c i w hs) a)
       on_same (ret a) p h fits = ap (λ v. returned in_vars around here v (fr X c i w hs) s) (reads_same (ret a) a p refl refl h) ∙ returned_same (held in_vars around here (fr Y c i w hs) a) w
 
-      pick_same : (v : Bool) → (p : Chose b n x there v X Y hs) → Fits (fr X c i w hs) s → leave_pick in_vars around here go n (succeeded p.last.var p.last.holds p.tested) v (fr X c i w hs) s ≡ leave_pick in_vars around here go n (succeeded p.last.var p.last.holds p.tested) v (fr Y c i w hs) s
-      pick_same true p fits = next None n p.last.holds X Y c i w hs s (arrives_by n p.last.holds p.at p.before _ (given_vars p.by) p.vars X Y hs None p.way (succeeds (point n p.at) p.before p.by p.last.var p.last.holds p.tested p.is_there (ap last_of there ∙ ap (λ y. Some y) p.last.last)) p.alike p.handlers) fits
-      pick_same false p fits = next None n p.tested X Y c i w hs s (arrives_by n p.tested p.at p.before _ [] p.vars X Y hs None p.way (fails (point n p.at) p.before p.by p.tested p.is_there (p.starts refl)) p.alike p.handlers) fits
+      pick_same : (v : Bool) → (p : Chose b n x there v X Y hs) → Fits (fr X c i w hs) s → leave_choose in_vars around here go n (succeeded p.last.var p.last.holds p.tested) v (fr X c i w hs) s ≡ leave_choose in_vars around here go n (succeeded p.last.var p.last.holds p.tested) v (fr Y c i w hs) s
+      pick_same true p fits = going None n p.last.holds X Y c i w hs s (arrives_by n p.last.holds p.at p.before _ (given_vars p.by) p.vars X Y hs None p.way (succeeds (point n p.at) p.before p.by p.last.var p.last.holds p.tested p.is_there (ap last_of there ∙ ap (λ y. Some y) p.last.last)) p.alike p.handlers) fits
+      pick_same false p fits = going None n p.tested X Y c i w hs s (arrives_by n p.tested p.at p.before _ [] p.vars X Y hs None p.way (fails (point n p.at) p.before p.by p.tested p.is_there (p.starts refl)) p.alike p.handlers) fits
 
       up_same : (q : Class) (r : Term) (js : List Handler) → hs ≡ js → Rose b n x there X Y hs → w ≡ None → raised_to in_vars around here (first_handler js) go n q r (fr X c i w hs) s ≡ raised_to in_vars around here (first_handler js) go n q r (fr Y c i w hs) s
       up_same q r [] e p o = refl
-      up_same q r (h ∷ is') e p o = next (Some (record { tag = h.tag; class = q; reason = r })) n h.landing X Y c i w hs s
+      up_same q r (h ∷ is') e p o = going (Some (record { tag = h.tag; class = q; reason = r })) n h.landing X Y c i w hs s
           (arrives_by n h.landing p.at (h ∷ is') is' [] p.vars X Y hs (Some (record { tag = h.tag; class = q; reason = r })) (subst (Way b (point n p.at) p.vars) e p.way) (raises (point n p.at) h is' p.by p.mode p.is_there p.may) p.alike (h, e))
           (λ m z. let y : None ≡ Some m = sym o ∙ z in cc)
 
@@ -335,11 +335,11 @@ module _ (b : Body) (around : Around) (here : Here) (lowers : Lowers here.enter)
       looking_same q r (Some m) e p = refl
 
     leave_same : (go : Option Raised → ℕ → ℕ → Frame Vars → State → Ended) → SameNext go → (a z : After Vars) → Two n x there a z → leave in_vars around here go n x.last a ≡ leave in_vars around here go n x.last z
-    leave_same go next _ _ (twin_on X Y c i w hs s h fits) = on_same go next X Y c i w hs s x.last refl h fits
-    leave_same go next _ _ (twin_pick v X Y c i w hs s p fits) = ap (λ l. leave_pick in_vars around here go n l v (fr X c i w hs) s) p.last.last ∙ pick_same go next X Y c i w hs s v p fits ∙ ap (λ l. leave_pick in_vars around here go n l v (fr Y c i w hs) s) (sym p.last.last)
-    leave_same go next _ _ (twin_up q r X Y c i w hs s p) = looking_same go next X Y c i w hs s q r w refl p
-    leave_same go next _ _ (twin_over s q) = refl
-    leave_same go next _ _ twin_bad = refl
+    leave_same go going _ _ (twin_on X Y c i w hs s h fits) = on_same go going X Y c i w hs s x.last refl h fits
+    leave_same go going _ _ (twin_pick v X Y c i w hs s p fits) = ap (λ l. leave_choose in_vars around here go n l v (fr X c i w hs) s) p.last.last ∙ pick_same go going X Y c i w hs s v p fits ∙ ap (λ l. leave_choose in_vars around here go n l v (fr Y c i w hs) s) (sym p.last.last)
+    leave_same go going _ _ (twin_up q r X Y c i w hs s p) = looking_same go going X Y c i w hs s q r w refl p
+    leave_same go going _ _ (twin_over s q) = refl
+    leave_same go going _ _ twin_bad = refl
 
   blocks_same : (k : ℕ) → SameNext (blocks in_vars around here b k)
   unfolding blocks

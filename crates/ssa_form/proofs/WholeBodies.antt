@@ -7,7 +7,7 @@ use Rattle.erl_base.specs.declared.ids.NodeId.{NodeId}
 use Rattle.ssa_form.specs.declared.op.Set.{Set}
 use Rattle.ssa_form.specs.declared.block.Block.{Block}
 use Rattle.ssa_form.specs.declared.body.Body.{Body}
-use Rattle.ssa_form.specs.SetOrder.{chain_in, chain_of, nodes_in, nodes_of, set_at, numbered, IsWhole, first_of, next_after}
+use Rattle.ssa_form.specs.SetOrder.{chain_in, chain_of, nodes_in, nodes_of, set_of_node, nodes_from, IsWhole, first_of, next_after}
 
 none_in : {A : Type 0} (x : A) → Contains [] x → ⊥
 none_in x c = omega (arith, c.1)
@@ -29,19 +29,19 @@ within [] i l = absurd (omega (arith, l))
 within (x ∷ xs) zero l = some_not _ x refl
 within (x ∷ xs) (suc i) l = within xs i (omega (arith, l))
 
-numbered_in : (k : ℕ) (xs : List Set) (n : NodeId) → Contains (numbered k xs) n → (k ≤ n.0) × (n.0 < k + length xs)
+numbered_in : (k : ℕ) (xs : List Set) (n : NodeId) → Contains (nodes_from k xs) n → (k ≤ n.0) × (n.0 < k + length xs)
 numbered_in k [] n c = absurd (none_in n c)
 numbered_in k (x ∷ xs) n c = ⊎_elim
     (λ e. let f : k ≡ n.0 = ap (λ m. m.0) e in (omega (arith, f), omega (arith, f)))
     (λ d. let p : (k + 1 ≤ n.0) × (n.0 < k + 1 + length xs) = numbered_in (k + 1) xs n d in (omega (arith, p.0), omega (arith, p.1)))
-    (Contains-cons_cases (record { 0 = k }) n (numbered (k + 1) xs) c)
+    (Contains-cons_cases (record { 0 = k }) n (nodes_from (k + 1) xs) c)
 
 module _ (old new : Body) (id : ℕ) (block : Block) (xs : List Set)
     (updates : Updates old.blocks new.blocks id (Some block)) (number : block.chain.0 ≡ length old.chains.chains)
-    (chains : new.chains.chains ≡ old.chains.chains ++ numbered (length old.chains.sets) xs ∷ [])
+    (chains : new.chains.chains ≡ old.chains.chains ++ nodes_from (length old.chains.sets) xs ∷ [])
     (sets : new.chains.sets ≡ old.chains.sets ++ xs) (whole : IsWhole old) where
-  new_chain : chain_of new id ≡ Some (numbered (length old.chains.sets) xs)
-  new_chain = ap (chain_in new.chains) updates.changed ∙ ap (slice_get new.chains.chains) number ∙ ap (λ cs. slice_get cs (length old.chains.chains)) chains ∙ at_end old.chains.chains (numbered (length old.chains.sets) xs)
+  new_chain : chain_of new id ≡ Some (nodes_from (length old.chains.sets) xs)
+  new_chain = ap (chain_in new.chains) updates.changed ∙ ap (slice_get new.chains.chains) number ∙ ap (λ cs. slice_get cs (length old.chains.chains)) chains ∙ at_end old.chains.chains (nodes_from (length old.chains.sets) xs)
 
   chain_kept : (o : Option Block) → chain_in old.chains o ≢ None → chain_in new.chains o ≡ chain_in old.chains o
   chain_kept None h = refl
@@ -57,10 +57,10 @@ module _ (old new : Body) (id : ℕ) (block : Block) (xs : List Set)
       apart : (k : ℕ) → eqb k id ≡ false → k ≢ id
       apart k e p = let q : true ≡ false = sym (eq-eqb k id p) ∙ e in cc
 
-  set_kept : (n : NodeId) → set_at old n.0 ≢ None → set_at new n.0 ≢ None
+  set_kept : (n : NodeId) → set_of_node old n.0 ≢ None → set_of_node new n.0 ≢ None
   set_kept n h e = h (sym (kept_in old.chains.sets xs n.0 h) ∙ ap (λ ys. slice_get ys n.0) (sym sets) ∙ e)
 
-  new_set : (n : NodeId) → Contains (numbered (length old.chains.sets) xs) n → set_at new n.0 ≢ None
+  new_set : (n : NodeId) → Contains (nodes_from (length old.chains.sets) xs) n → set_of_node new n.0 ≢ None
   new_set n c e = let p : (length old.chains.sets ≤ n.0) × (n.0 < length old.chains.sets + length xs) = numbered_in (length old.chains.sets) xs n c in
       within (old.chains.sets ++ xs) n.0 (let q : length (old.chains.sets ++ xs) ≡ length old.chains.sets + length xs = lengths old.chains.sets in omega (arith, p.1, q)) (ap (λ ys. slice_get ys n.0) (sym sets) ∙ e)
     where
@@ -68,14 +68,14 @@ module _ (old new : Body) (id : ℕ) (block : Block) (xs : List Set)
       lengths [] = omega arith
       lengths (y ∷ ys) = let h : length (ys ++ xs) ≡ length ys + length xs = lengths ys in omega (arith, h)
 
-  node_there : (k : ℕ) (b : Bool) → eqb k id ≡ b → (n : NodeId) → Contains (nodes_of new k) n → set_at new n.0 ≢ None
+  node_there : (k : ℕ) (b : Bool) → eqb k id ≡ b → (n : NodeId) → Contains (nodes_of new k) n → set_of_node new n.0 ≢ None
   node_there k true e n c = new_set n (subst (λ ns. Contains ns n) (ap nodes_in (ap (chain_of new) (eqb-true k id e) ∙ new_chain)) c)
   node_there k false e n c = by_block (get new.blocks k) refl
     where
       not_new : k ≢ id
       not_new p = let q : true ≡ false = sym (eq-eqb k id p) ∙ e in cc
 
-      by_block : (x : Option Block) → get new.blocks k ≡ x → set_at new n.0 ≢ None
+      by_block : (x : Option Block) → get new.blocks k ≡ x → set_of_node new n.0 ≢ None
       by_block None p = absurd (none_in n (subst (λ ns. Contains ns n) (ap (λ o. nodes_in (chain_in new.chains o)) p) c))
       by_block (Some x) p = set_kept n (whole.sets k n (subst (λ ns. Contains ns n) (ap nodes_in (other_chain k not_new (some_not _ x p))) c))
 

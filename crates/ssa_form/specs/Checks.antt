@@ -13,39 +13,46 @@ abbrev pub has_size : ℕ → Term → Option Bool
 has_size n (T.tuple ts) = Some (eqb (count ts) n)
 has_size n _ = None
 
+-- all keys are in a map
 unfoldable pub has_keys : Values → Pairs → Bool
 unfolding same_term
 has_keys [] ps = true
 has_keys (k ∷ ks) ps = is_there (value_at ps k) && has_keys ks ps
 
+-- in a term, which has to be a map
 abbrev pub map_has : Values → Term → Option Bool
 map_has ks (T.map ps) = Some (has_keys ks ps)
 map_has ks _ = None
 
+-- of one term
 abbrev pub type_test : TypeTest → Values → Option Bool
 type_test c (t ∷ []) = Some (type_holds c t)
 type_test c _ = None
 
+-- of two terms
 abbrev pub comparison : Comparison → Values → Option Bool
 comparison c (t ∷ u ∷ []) = Some (compare_holds c t u)
 comparison c _ = None
 
+-- of one term
 abbrev pub size_test : ℕ → Values → Option Bool
 size_test n (t ∷ []) = has_size n t
 size_test n _ = None
 
+-- of one term
 abbrev pub tag_test : ℕ → Name → Values → Option Bool
 tag_test n a (t ∷ []) = Some (is_tagged n a t)
 tag_test n a _ = None
 
+-- of a map and keys
 abbrev pub key_test : Values → Option Bool
 key_test (t ∷ ks) = map_has ks t
 key_test _ = None
 
 -- whether a test holds; None: it may not be asked of these terms
-abbrev pub holds : Check → Values → Option Bool
-holds (test c) vs = type_test c vs
-holds (compares c) vs = comparison c vs
-holds (test_arity n) vs = size_test n vs
-holds (is_tagged_tuple n a) vs = tag_test n a vs
-holds has_map_fields vs = key_test vs
+abbrev pub check_holds : Check → Values → Option Bool
+check_holds (test c) vs = type_test c vs
+check_holds (compares c) vs = comparison c vs
+check_holds (test_arity n) vs = size_test n vs
+check_holds (is_tagged_tuple n a) vs = tag_test n a vs
+check_holds has_map_fields vs = key_test vs

@@ -10,6 +10,7 @@ words_of tuple n = suc n
 words_of (make_fun s) n = 4 + n
 words_of op n = 0
 
+-- the words that sets in a row build
 abbrev pub built_words : List Set → ℕ
 built_words [] = 0
 built_words (x ∷ xs) = words_of x.op (length x.args) + built_words xs
@@ -24,6 +25,7 @@ abbrev pub registers_of : Option Spot → ℕ
 registers_of (Some (x_reg n)) = suc n
 registers_of _ = 0
 
+-- one more than the highest X register of these variables
 abbrev pub live_registers : Spots → List ℕ → ℕ
 live_registers ps [] = 0
 live_registers ps (v ∷ vs) = max (registers_of (spot_of ps v)) (live_registers ps vs)

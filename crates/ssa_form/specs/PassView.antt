@@ -17,21 +17,26 @@ result_of (done s q) = Some (s, q)
 result_of Ended.bad = None
 result_of unfinished = None
 
+-- what a body gives with a value for each variable
 abbrev pub ssa_does : Body → Around → Run
 ssa_does b around = λ here vs s k. result_of (ssa_run around here b k (all_terms vs) [] s)
 
+-- with spots
 abbrev pub placed_does : Placed → Around → Run
 placed_does p around = λ here vs s k. result_of (placed_run around here p k (all_terms vs) [] s)
 
+-- with frames
 abbrev pub framed_does : Framed → Around → Run
 framed_does p around = λ here vs s k. result_of (framed_run around here p k (all_terms vs) [] s)
 
 -- what each set of a body has of its own, in order
 
+-- what a function gives of the sets of a chain
 abbrev pub chain_gathers : (Set → List ℕ) → List Set → List ℕ
 chain_gathers f [] = []
 chain_gathers f (x ∷ xs) = f x ++ chain_gathers f xs
 
+-- of all sets of a body
 abbrev pub gathers : (Set → List ℕ) → List (Option Block) → List ℕ
 gathers f [] = []
 gathers f (None ∷ os) = gathers f os
@@ -47,6 +52,7 @@ abbrev pub call_of : Op → Option ℕ → List ℕ
 call_of call_remote d = dst_vars d
 call_of _ d = []
 
+-- a body as passes see it, by what it does
 abbrev pub form_of : (Around → Run) → Body → Form Around
 form_of does b = record {
   does = does;
@@ -55,12 +61,15 @@ form_of does b = record {
   variables = b.params ++ blocks_set b.blocks;
 }
 
+-- of a body
 abbrev pub ssa_form : Body → Form Around
 ssa_form b = form_of (ssa_does b) b
 
+-- of one with spots
 abbrev pub placed_form : Placed → Form Around
 placed_form p = form_of (placed_does p) p.body
 
+-- of one with frames
 abbrev pub framed_form : Framed → Form Around
 framed_form p = form_of (framed_does p) p.body
 

@@ -6,27 +6,33 @@ use Rattle.bif_table.specs.Builtins.{Bif, arity_of, is_guard}
 use Rattle.ssa_form.specs.Ssa.{Arg, var, lit, Check, compares, has_map_fields, Op, copy, bif, cons, tuple, map_put, map_get, element, hd, tl, check, make_fun, call_local, call_fun, call_remote, send, trace, raise, bs_start, bs_integer, bs_binary, bs_skip, bs_done, bs_unit, bs_tail, bs_position, bs_restore, bs_create, try_start, try_end, landing, catch_end, peek, take_message, skip_message, wait, reset, reserve, bind, use_marker, Set}
 use Rattle.ssa_form.specs.Storage.{Mode, jump, tests}
 
+-- the variables among operands
 abbrev pub arg_vars : List Arg → List ℕ
 arg_vars [] = []
 arg_vars (var v ∷ as') = v ∷ arg_vars as'
 arg_vars (lit t ∷ as') = arg_vars as'
 
+-- the variable that is set, if one is
 abbrev pub dst_vars : Option ℕ → List ℕ
 dst_vars None = []
 dst_vars (Some v) = v ∷ []
 
+-- all of them
 abbrev pub all_among : List ℕ → List ℕ → Bool
 all_among [] ws = true
 all_among (v ∷ vs) ws = among v ws && all_among vs ws
 
+-- none of them
 abbrev pub none_among : List ℕ → List ℕ → Bool
 none_among [] ws = true
 none_among (v ∷ vs) ws = not (among v ws) && none_among vs ws
 
+-- the last tests the set
 abbrev pub is_tests : Mode → Bool
 is_tests (tests e) = true
 is_tests _ = false
 
+-- the last is a plain jump
 abbrev pub is_jump : Mode → Bool
 is_jump jump = true
 is_jump _ = false
@@ -35,6 +41,7 @@ is_jump _ = false
 pub data Taking : Type 0 where
   never maybe always by_jump : Taking
 
+-- how an operation is taken by the last
 abbrev pub taking_of : Op → Taking
 taking_of (bif b) = maybe
 taking_of map_get = always
@@ -52,12 +59,14 @@ taking_of wait = always
 taking_of skip_message = by_jump
 taking_of _ = never
 
+-- whether a mode takes it so
 abbrev pub is_taken : Taking → Mode → Bool
 is_taken never mode = not (is_tests mode)
 is_taken maybe mode = true
 is_taken always mode = is_tests mode
 is_taken by_jump mode = is_jump mode
 
+-- how many terms a test asks of
 abbrev pub check_count : Check → ℕ → Bool
 check_count (compares c) n = eqb n 2
 check_count has_map_fields n = leb 2 n
@@ -143,12 +152,15 @@ names_handler landing = true
 names_handler catch_end = true
 names_handler _ = false
 
-abbrev pub is_there : Option ℕ → Bool
-is_there None = false
-is_there (Some v) = true
+-- whether there is a variable
+abbrev pub has_var : Option ℕ → Bool
+has_var None = false
+has_var (Some v) = true
 
+-- the operands, the mode and the destination fit the operation
 abbrev pub in_form : Mode → Set → Bool
-in_form mode x = takes_count x.op (length x.args) && is_taken (taking_of x.op) mode && (not (needs_dst x.op) || is_there x.dst)
+in_form mode x =
+    takes_count x.op (length x.args) && is_taken (taking_of x.op) mode && (not (needs_dst x.op) || has_var x.dst)
 
 -- the listed functions that no argument makes raise
 abbrev pub never_raises : Bif → Bool
@@ -214,10 +226,12 @@ unsets_registers skip_message = true
 unsets_registers wait = true
 unsets_registers _ = false
 
+-- a look
 abbrev pub is_peek : Op → Bool
 is_peek (peek n) = true
 is_peek _ = false
 
+-- a handler opens
 abbrev pub is_try_start : Op → Bool
 is_try_start try_start = true
 is_try_start _ = false

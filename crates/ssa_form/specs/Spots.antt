@@ -2,6 +2,7 @@
 use Rattle.std.specs.Prelude.{ℕ, suc, List, [], ◌∷◌, max, Bool, false, eqb, Option, Some, None, if◌then◌else◌}
 use Rattle.ssa_form.specs.Storage.{Held, unset, Handler}
 
+-- an X register, or a slot of the frame
 pub data Spot : Type 0 where
   x_reg y_slot : ℕ → Spot
 
@@ -9,20 +10,23 @@ pub data Spot : Type 0 where
 abbrev pub Spots : Type 0
 Spots = List (ℕ × Spot)
 
+-- a variable's spot
 abbrev pub spot_of : Spots → ℕ → Option Spot
 spot_of [] v = None
 spot_of (p ∷ ps) v = if eqb p.0 v then Some p.1 else spot_of ps v
 
--- What a spot holds: nothing, nothing any more, the value of this variable, or the tag of an open handler: its variable and
--- the block where raises land.
+-- What a spot holds: nothing, nothing any more, the value of this variable, or the tag of an open handler: its
+-- variable and the block where raises land.
 pub data Cell : Type 0 where
   empty killed : Cell
   own : ℕ → Held → Cell
   tag : ℕ → ℕ → Cell
 
+-- no spot holds anything
 abbrev pub nothing : ℕ → Cell
 nothing n = empty
 
+-- one is written anew
 abbrev pub with_cell : ℕ → Cell → (ℕ → Cell) → ℕ → Cell
 with_cell n c cs k = if eqb k n then c else cs k
 
@@ -31,6 +35,7 @@ abbrev pub tag_in : Cell → Option Handler
 tag_in (tag v b) = Some (record { tag = v; landing = b })
 tag_in _ = None
 
+-- the tag of this variable's handler
 abbrev pub is_tag_of : ℕ → Cell → Bool
 is_tag_of v (tag w b) = eqb v w
 is_tag_of v _ = false
@@ -45,6 +50,7 @@ abbrev pub slots_after : Spot → ℕ
 slots_after (x_reg n) = 0
 slots_after (y_slot n) = suc n
 
+-- how many slots they name in all
 abbrev pub slot_count : Spots → ℕ
 slot_count [] = 0
 slot_count (p ∷ ps) = max (slots_after p.1) (slot_count ps)

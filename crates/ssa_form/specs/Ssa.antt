@@ -6,6 +6,7 @@ use Rattle.erl_term.specs.Segments.{Shape}
 use Rattle.bif_table.specs.Builtins.{Bif}
 use Rattle.bif_table.specs.TermTests.{TypeTest, Comparison}
 
+-- an operand: a variable, or a term
 pub data Arg : Type 0 where
   var : ℕ → Arg
   lit : Term → Arg
@@ -53,12 +54,14 @@ pub record Set : Type 0 where
   pub op : Op
   pub args : List Arg
 
+-- how a block ends: by a truth value, by the success of its last set, by a choice among terms, or with a value
 pub data Last : Type 0 where
   br : Arg → ℕ → ℕ → Last
   succeeded : ℕ → ℕ → ℕ → Last
   switch : Arg → ℕ → List (Term × ℕ) → Last
   ret : Arg → Last
 
+-- a variable whose value depends on the edge that was taken
 pub record Phi : Type 0 where
   pub dst : ℕ
   pub from : List (ℕ × Arg)
@@ -77,10 +80,12 @@ pub record Body : Type 0 where
   pub blocks : List (Option Block)
   pub contexts : List ℕ
 
+-- a block that is there
 abbrev pub or_none : Option (Option Block) → Option Block
 or_none None = None
 or_none (Some o) = o
 
+-- the block with this number
 abbrev pub block_at : Body → ℕ → Option Block
 block_at b n = or_none (slice_get b.blocks n)
 

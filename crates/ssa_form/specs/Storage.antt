@@ -18,7 +18,8 @@ pub record Handler : Type 0 where
   pub tag : ℕ
   pub landing : ℕ
 
--- how control leaves for a while or for good: a call, a call or a value that ends the body, or a call that always raises
+-- how control leaves for a while or for good: a call, a call or a value that ends the body, or a call that always
+-- raises
 pub data Leaving : Type 0 where
   calls ends_body always_raises : Leaving
 
@@ -48,10 +49,10 @@ pub record Frame (S : Type 0) : Type 0 where
 
 -- What follows a set: the next one, a choice between the two blocks of a last, a raise, an end, or a broken rule.
 pub data After (S : Type 0) : Type 0 where
-  on : Frame S → State → After S
-  pick : Bool → Frame S → State → After S
-  up : Class → Term → Frame S → State → After S
-  over : State → Outcome Term → After S
+  next : Frame S → State → After S
+  choose : Bool → Frame S → State → After S
+  raise : Class → Term → Frame S → State → After S
+  finish : State → Outcome Term → After S
   bad : After S
 
 -- How a run of a body stands: it is over, it broke a rule, or it needs more blocks than it was allowed.
@@ -72,29 +73,36 @@ pub record Around : Type 0 where
   pub reached : List (ℕ × ℕ)
   pub choices : List Bool
 
+-- whether a message is looked at
 abbrev pub in_window : {S : Type 0} → Frame S → Bool
 in_window f = elim f.window [ None ↦ false | Some m ↦ true ]
 
+-- goes on behind a set
 abbrev pub go_on : {S : Type 0} → After S → (Frame S → State → After S) → After S
-go_on (on f s) k = k f s
-go_on (pick b f s) k = pick b f s
-go_on (up c r f s) k = up c r f s
-go_on (over s o) k = over s o
+go_on (next f s) k = k f s
+go_on (choose b f s) k = choose b f s
+go_on (raise c r f s) k = raise c r f s
+go_on (finish s o) k = finish s o
 go_on After.bad k = After.bad
 
+-- a rule
 abbrev pub when : {S : Type 0} → Bool → After S → After S
 when true a = a
 when false a = After.bad
 
+-- this is wanted
 abbrev pub if_some : {A S : Type 0} → Option A → (A → After S) → After S
 if_some None k = After.bad
 if_some (Some a) k = k a
 
+-- no message may be looked at
 abbrev pub outside : {S : Type 0} → Frame S → After S → After S
 outside f a = elim f.window [ None ↦ a | Some m ↦ After.bad ]
 
+-- a message has to be looked at
 abbrev pub inside : {S : Type 0} → Frame S → (Message → After S) → After S
 inside f k = elim f.window [ None ↦ After.bad | Some m ↦ k m ]
 
+-- with this storage
 abbrev pub kept : {S : Type 0} → Frame S → S → Frame S
 kept f st = record f { store = st }

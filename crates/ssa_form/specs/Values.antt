@@ -10,73 +10,87 @@ use Rattle.world_model.specs.MapUpdate.{Put}
 use Rattle.step_machine.specs.Frames.{MatchContext, rest_of}
 use Rattle.ssa_form.specs.Storage.{Held, term, context, Mode, tail}
 
+-- a call is the body's result
 abbrev pub is_tail : Mode → Bool
 is_tail tail = true
 is_tail _ = false
 
 -- Values that are terms.
 
+-- a term before terms
 abbrev pub also : Held → Option Values → Option Values
 also (term t) (Some ts) = Some (t ∷ ts)
 also _ _ = None
 
+-- all of them, if all are terms
 abbrev pub terms_of : List Held → Option Values
 terms_of [] = Some []
 terms_of (h ∷ hs) = also h (terms_of hs)
 
--- Local calls. A context that is handed on stands for the rest of its bits. Only a call that ends the body hands one on,
--- once, and only at a parameter where one may come.
+-- Local calls. A context that is handed on stands for the rest of its bits. Only a call that ends the body hands one
+-- on, once, and only at a parameter where one may come.
 
+-- whether a context may come at a parameter
 abbrev pub is_reached : List (ℕ × ℕ) → ℕ → ℕ → Bool
 is_reached [] n i = false
 is_reached (p ∷ ps) n i = (eqb p.0 n && eqb p.1 i) || is_reached ps n i
 
+-- whether this context is held
 abbrev pub is_context : ℕ → Held → Bool
 is_context n (context m) = eqb n m
 is_context n _ = false
 
+-- whether it is held again
 abbrev pub has_context : ℕ → List Held → Bool
 has_context n [] = false
 has_context n (h ∷ hs) = is_context n h || has_context n hs
 
+-- the rest of its bits
 abbrev pub rest_in : Option MatchContext → Option Term
 rest_in None = None
 rest_in (Some w) = Some (T.bits (rest_of w))
 
+-- a term, or a context that may be handed on
 abbrev pub one_handed : Bool → List MatchContext → Held → List Held → Option Term
 one_handed may cs (term t) hs = Some t
 one_handed may cs (context n) hs = if may && not (has_context n hs) then rest_in (slice_get cs n) else None
 one_handed may cs _ hs = None
 
+-- a term before terms, if both are there
 abbrev pub with_term : Option Term → Option Values → Option Values
 with_term (Some t) (Some ts) = Some (t ∷ ts)
 with_term _ _ = None
 
+-- operands from number i on
 abbrev pub handed_from : ℕ → Bool → List MatchContext → List (ℕ × ℕ) → ℕ → List Held → Option Values
 handed_from i ends cs reached n [] = Some []
 handed_from i ends cs reached n (h ∷ hs) =
     with_term (one_handed (ends && is_reached reached n i) cs h hs) (handed_from (suc i) ends cs reached n hs)
 
+-- all operands of a call
 abbrev pub handed : Bool → List MatchContext → List (ℕ × ℕ) → ℕ → List Held → Option Values
 handed ends cs reached n hs = handed_from 0 ends cs reached n hs
 
 -- a function of the module erlang that always raises
-abbrev pub raises_always : Term → Term → ℕ → Bool
-raises_always (T.atom m) (T.atom f) n =
+abbrev pub never_returns : Term → Term → ℕ → Bool
+never_returns (T.atom m) (T.atom f) n =
     same_name m (codes "erlang") && B.raises_always f n
-raises_always _ _ n = false
+never_returns _ _ n = false
 
 -- Operands in groups: keys with values, values with sizes.
 
+-- a pair before pairs
 abbrev pub with_put : Put → Option (List Put) → Option (List Put)
 with_put q None = None
 with_put q (Some qs) = Some (q ∷ qs)
 
+-- keys with values
 abbrev pub puts_of : Bool → Values → Option (List Put)
 puts_of exact [] = Some []
 puts_of exact (k ∷ []) = None
 puts_of exact (k ∷ v ∷ vs) = with_put (record { key = k; value = v; exact = exact }) (puts_of exact vs)
 
+-- a segment's bits before the others'
 abbrev pub with_part : Option (List Bool) → Option (Option (List Bool)) → Option (Option (List Bool))
 with_part p None = None
 with_part p (Some ps) = Some (joined p ps)

@@ -20,16 +20,19 @@ use Rattle.ssa_form.specs.declared.block.Last.{Last}
 use Rattle.ssa_form.specs.declared.block.Last.TheVariants as L
 use Rattle.ssa_form.specs.declared.block.Block.{Block}
 use Rattle.ssa_form.specs.declared.body.Body.{Body}
-use Rattle.ssa_form.specs.SetOrder.{nodes_in, chain_in, set_at}
+use Rattle.ssa_form.specs.SetOrder.{nodes_in, chain_in, set_of_node}
 use Rattle.ssa_form.specs.Ssa as Plain
 
+-- operands
 abbrev pub arg_view : Code.Arg → Plain.Arg
 arg_view (A.Var v) = Plain.var v.0
 arg_view (A.Lit t) = Plain.lit (view t)
 
+-- variables
 abbrev pub var_number : VarId → ℕ
 var_number v = v.0
 
+-- tests
 abbrev pub check_view : Check → Plain.Check
 check_view (C.Test t) = Plain.test (type_view t)
 check_view (C.Compare c) = Plain.compares (comparison_view c)
@@ -37,9 +40,11 @@ check_view (C.TestArity n) = Plain.test_arity n
 check_view (C.IsTaggedTuple n a) = Plain.is_tagged_tuple n a
 check_view C.HasMapFields = Plain.has_map_fields
 
+-- segments
 abbrev pub field_view : Field → Shape
 field_view f = record { unit = f.unit; is_binary = f.binary; signed = f.signed; little = f.little; whole = f.whole }
 
+-- operations
 abbrev pub op_view : Op → Plain.Op
 op_view O.Copy = Plain.copy
 op_view (O.Bif b) = Plain.bif (bif_view b)
@@ -81,25 +86,31 @@ op_view O.Reserve = Plain.reserve
 op_view O.Bind = Plain.bind
 op_view O.UseMark = Plain.use_marker
 
+-- operands in a row
 abbrev pub args_view : List Code.Arg → List Plain.Arg
 args_view = map arg_view
 
 -- a set with the frame actions before it
 abbrev pub set_view : List Plain.FrameAction → Set → Plain.Set
-set_view acts x = record { before = acts; dst = option_map var_number x.dst; op = op_view x.op; args = args_view x.args }
+set_view acts x =
+    record { before = acts; dst = option_map var_number x.dst; op = op_view x.op; args = args_view x.args }
 
+-- edges
 abbrev pub edge_view : BlockId × Code.Arg → ℕ × Plain.Arg
 edge_view e = (e.0.0, arg_view e.1)
 
+-- phis
 abbrev pub phi_view : Phi → Plain.Phi
 phi_view p = record { dst = p.dst.0; from = map edge_view p.from }
 
+-- lasts
 abbrev pub last_view : Last → Plain.Last
 last_view (L.Br a t e) = Plain.br (arg_view a) t.0 e.0
 last_view (L.Succeeded v t e) = Plain.succeeded v.0 t.0 e.0
 last_view (L.Switch a d cs) = Plain.switch (arg_view a) d.0 (map (λ c. (view c.0, c.1.0)) cs)
 last_view (L.Ret a) = Plain.ret (arg_view a)
 
+-- a set, if the node has one
 abbrev pub with_set : List Plain.FrameAction → Option Set → List Plain.Set → List Plain.Set
 with_set acts None xs = xs
 with_set acts (Some x) xs = set_view acts x ∷ xs
@@ -108,9 +119,10 @@ with_set acts (Some x) xs = set_view acts x ∷ xs
 abbrev pub Acts : Type 0
 Acts = ℕ → List Plain.FrameAction
 
+-- the sets of a chain
 abbrev pub chain_view : Body → Acts → List NodeId → List Plain.Set
 chain_view b acts [] = []
-chain_view b acts (n ∷ ns) = with_set (acts n.0) (set_at b n.0) (chain_view b acts ns)
+chain_view b acts (n ∷ ns) = with_set (acts n.0) (set_of_node b n.0) (chain_view b acts ns)
 
 -- last: the frame actions before a block's last
 abbrev pub block_view : Body → Acts → (ℕ → List Plain.FrameAction) → ℕ → Block → Plain.Block
@@ -121,10 +133,12 @@ block_view b acts last n x = record {
   last = last_view x.last;
 }
 
+-- all blocks
 abbrev pub slots_view : Body → Acts → (ℕ → List Plain.FrameAction) → ℕ → List (Option Block) → List (Option Plain.Block)
 slots_view b acts last n [] = []
 slots_view b acts last n (o ∷ os) = option_map (block_view b acts last n) o ∷ slots_view b acts last (suc n) os
 
+-- no frame actions
 abbrev pub no_acts : ℕ → List Plain.FrameAction
 no_acts n = []
 

@@ -1,7 +1,7 @@
 // The body of one function, and how its sets are read.
 ghost use Rattle.std.specs.Prelude.{◌≡◌, ◌≢◌, ◌<◌, [], ◌∷◌, ◌++◌, length, OnOk, OnErr, IfOk, IfSome, Some, None, Contains, slice_get};
 ghost use Rattle.std.specs.Option.{option_map};
-ghost use Rattle.ssa_form.specs.SetOrder.{nodes_of, set_at, first_of, next_after, chain_of};
+ghost use Rattle.ssa_form.specs.SetOrder.{nodes_of, set_of_node, first_of, next_after, chain_of};
 
 use crate::block::Block;
 use crate::op::Set;
@@ -10,8 +10,8 @@ use erl_term::Term;
 use slab::Slab;
 use std::alloc::Global;
 
-/// What is known of a variable's value: its kinds as a set of bits, in the order of terms; bounds of an integer; the size
-/// of a tuple; the value itself.
+/// What is known of a variable's value: its kinds as a set of bits, in the order of terms; bounds of an integer; the
+/// size of a tuple; the value itself.
 #[derive(Debug, Drop)]
 pub struct Fact {
     pub kinds: u16,
@@ -65,8 +65,8 @@ pub struct SetLists {
     pub(crate) chains: List<NodeIds>,
 }
 
-/// The body of a function. `facts`, `contexts`, `marks`, `regions` and `numbers` are filled by the stages; `contexts` holds
-/// the numbers, from 0, of the parameters at which a match context may come.
+/// The body of a function. `facts`, `contexts`, `marks`, `regions` and `numbers` are filled by the stages; `contexts`
+/// holds the numbers, from 0, of the parameters at which a match context may come.
 #[derive(Drop)]
 pub struct Body {
     pub key: FunKey,
@@ -114,8 +114,8 @@ impl Body {
 
     /// A set.
     pub fn set(&self, n: NodeId) -> &Set
-        requires { set_at self.now n.0 ≢ None }
-        ensures { Some result.now ≡ set_at self.now n.0 }
+        requires { set_of_node self.now n.0 ≢ None }
+        ensures { Some result.now ≡ set_of_node self.now n.0 }
     {
         &self.chains.sets.as_slice()[n.0 as usize]
     }

@@ -1,7 +1,7 @@
 // Building bodies: a block is added with all its sets, and the blocks that are there stay as they are.
 ghost use Rattle.std.specs.Prelude.{◌≡◌, ◌≢◌, ℕ, [], ◌∷◌, ◌++◌, length, take, IfOk, OnErr, Some, None};
 ghost use Rattle.slab.specs.Slab.{get, Updates};
-ghost use Rattle.ssa_form.specs.SetOrder.{IsWhole, chain_of, numbered, block_of};
+ghost use Rattle.ssa_form.specs.SetOrder.{IsWhole, chain_of, nodes_from, block_of};
 
 use crate::block::{Block, Last, Phis};
 use crate::body::{Body, NodeIds, SetLists};
@@ -28,7 +28,8 @@ impl SetLists {
     fn add(&mut self, alloc: Global, sets: List<Set>) -> Result<ChainId, NoMemory>
         ensures ok_id { IfOk result (λ id. id.0 ≡ length self.old.chains) }
         ensures ok_sets { IfOk result (λ id. self.new.sets ≡ self.old.sets ++ sets) }
-        ensures ok_chains { IfOk result (λ id. self.new.chains ≡ self.old.chains ++ numbered (length self.old.sets) sets ∷ []) }
+        ensures ok_chains { IfOk result
+            (λ id. self.new.chains ≡ self.old.chains ++ nodes_from (length self.old.sets) sets ∷ []) }
         ensures err_chains { OnErr result (self.new.chains ≡ self.old.chains) }
         ensures err_sets { OnErr result (take (length self.old.sets) self.new.sets ≡ self.old.sets) }
     {
@@ -86,8 +87,11 @@ impl Body {
         sets: List<Set>,
         last: Last,
     ) -> Result<BlockId, NoMemory>
-        ensures block { IfOk result (λ id. Updates self.old.blocks self.new.blocks id.0 (Some (block_of phis (length self.old.chains.chains) last))) }
-        ensures nodes { IfOk result (λ id. chain_of self.new id.0 ≡ Some (numbered (length self.old.chains.sets) sets)) }
+        ensures block { IfOk result
+            (λ id. Updates self.old.blocks self.new.blocks id.0
+            (Some (block_of phis (length self.old.chains.chains) last))) }
+        ensures nodes { IfOk result
+            (λ id. chain_of self.new id.0 ≡ Some (nodes_from (length self.old.chains.sets) sets)) }
         ensures sets { IfOk result (λ id. self.new.chains.sets ≡ self.old.chains.sets ++ sets) }
         ensures key { self.new.key ≡ self.old.key }
         ensures site { self.new.site ≡ self.old.site }

@@ -32,8 +32,8 @@ pub fn forms_have_one_result()
     ensures { FormsHaveOneResult }
 {}
 
-/// A variable is live before a set that reads it, or that leaves it and behind which it is live, where only the next place
-/// follows.
+/// A variable is live before a set that reads it, or that leaves it and behind which it is live, where only the next
+/// place follows.
 pub fn liveness_goes_over_a_set()
     ensures { (b : Plain.Body) → LiveBeforeSet b }
 {}

@@ -32,7 +32,8 @@ pub type FrameActions = List<FrameAction>;
 /// The actions that are done before a node's operation.
 pub type NodeActions = List<(NodeId, FrameActions)>;
 
-/// The frame of one block: its size where the block begins, if there is one, and the actions before its nodes and its last.
+/// The frame of one block: its size where the block begins, if there is one, and the actions before its nodes and its
+/// last.
 #[derive(Drop)]
 pub struct BlockFrame {
     pub block: BlockId,

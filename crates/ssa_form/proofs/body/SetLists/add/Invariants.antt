@@ -1,5 +1,5 @@
 use Rattle.std.proofs.Common.{◌≡◌, ◌++◌, length}
-use Rattle.ssa_form.specs.SetOrder.{numbered}
+use Rattle.ssa_form.specs.SetOrder.{nodes_from}
 use Rattle.ssa_form.proofs.body.SetLists.add.Given as goal
 
 abbrev pub invariant-loop-set : goal.invariant-loop-set
@@ -8,5 +8,5 @@ invariant-loop-set l = record {
   is_finite : (goal.iterator-loop-set).is_finite l.set-iterator;
   sets : l.self.sets ≡ l.initial.self.sets ++ l.yielded;
   chains : l.self.chains ≡ l.initial.self.chains;
-  nodes : l.nodes ≡ numbered (length l.initial.self.sets) l.yielded;
+  nodes : l.nodes ≡ nodes_from (length l.initial.self.sets) l.yielded;
 }
