@@ -1,6 +1,6 @@
 use crate::notes::note;
 use crate::{Status, run};
-use erl_base::{Kind, LimitName, Outside, Place, Refusal, ScopeFault};
+use erl_base::{Kind, LimitName, Place, Refusal, ScopeFault};
 use std::alloc::Global;
 use std::test::Fail;
 use store_io::{CallNumbers, FaultySink, FaultyStore, MemorySink, MemoryStore};
@@ -20,14 +20,6 @@ const ASM: &str = "{module,one}.
     return.
 ";
 
-const USAGE: &str =
-    "usage: erlc_core compile IN OUT, check IN, list PASS IN, trace S FUN ARGS SCRIPT LIMIT, sample N, verify S\n";
-
-const NOT_BUILT: Status = Status::Refused(Refusal {
-    kind: Kind::Profile(Outside::NotBuilt),
-    place: Place { line: 1, column: 1 },
-});
-
 fn words_of(alloc: Global, text: &str) -> Result<Vec<String>, Fail> {
     let mut words = Vec::new(alloc);
     for word in text.split(' ') {
@@ -40,88 +32,6 @@ fn numbers(alloc: Global, number: u64) -> Result<CallNumbers, Fail> {
     let mut failing = CallNumbers::new(alloc);
     failing.push(number)?;
     Ok(failing)
-}
-
-#[derive(Drop)]
-struct Row {
-    words: &'static str,
-    text: &'static str,
-    status: Status,
-    notes: &'static str,
-    asm: Option<&'static str>,
-}
-
-#[test]
-fn answers_and_what_they_leave(rt: HostRuntime) -> Result<(), Fail> {
-    let alloc = rt.alloc();
-    let rows = [
-        Row {
-            words: "compile in.core out.S",
-            text: ONE,
-            status: Status::Done,
-            notes: "",
-            asm: Some(ASM),
-        },
-        Row {
-            words: "compile in.core out.S",
-            text: "",
-            status: NOT_BUILT,
-            notes: "in.core:1:1: outside the profile: not built\n",
-            asm: None,
-        },
-        Row {
-            words: "compile in.core",
-            text: ONE,
-            status: Status::Usage,
-            notes: USAGE,
-            asm: None,
-        },
-        Row {
-            words: "compile two.core out.S",
-            text: ONE,
-            status: Status::ReadFault,
-            notes: "two.core: cannot be read\n",
-            asm: None,
-        },
-        Row {
-            words: "compile in.core two.S",
-            text: ONE,
-            status: Status::WriteFault,
-            notes: "two.S: cannot be written\n",
-            asm: None,
-        },
-    ];
-    for row in rows.iter() {
-        let mut store = MemoryStore::new(alloc);
-        store.add("in.core", row.text.as_bytes())?;
-        store.reserve("out.S", 10000)?;
-        let mut out = MemorySink::new(alloc);
-        let mut notes = MemorySink::new(alloc);
-        notes.reserve(1000)?;
-        let words = words_of(alloc, row.words)?;
-        let status = run(alloc, words.as_slice(), &mut store, &mut out, &mut notes);
-        assert_eq!(rt; status, row.status);
-        assert!(rt; notes.bytes() == row.notes.as_bytes());
-        assert!(rt; store.file("out.S") == row.asm.map(|asm| asm.as_bytes()));
-        assert!(rt; store.file("in.core") == Some(row.text.as_bytes()));
-        assert!(rt; out.bytes().is_empty());
-    }
-    Ok(())
-}
-
-#[test]
-fn input_and_output_may_be_one_file(rt: HostRuntime) -> Result<(), Fail> {
-    let alloc = rt.alloc();
-    let mut store = MemoryStore::new(alloc);
-    store.add("one", ONE.as_bytes())?;
-    store.reserve("one", 10000)?;
-    let mut out = MemorySink::new(alloc);
-    let mut notes = MemorySink::new(alloc);
-    let words = words_of(alloc, "compile one one")?;
-    let status = run(alloc, words.as_slice(), &mut store, &mut out, &mut notes);
-    assert_eq!(rt; status, Status::Done);
-    assert!(rt; store.file("one") == Some(ASM.as_bytes()));
-    Ok(())
 }
 
 /// A store whose call with this number fails, and what is left of it: the calls are two loads, a create, an append.

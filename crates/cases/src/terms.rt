@@ -1,0 +1,29 @@
+// A row is the text of a term, and what is shown is the printed text of the term that is read.
+use crate::row::bytes_of;
+use erl_base::Fault;
+use std::test::Fail;
+use term_read::read_term;
+use term_text::write_term;
+
+pub fn show(rt: &HostRuntime, row: &str) -> Result<(), Fail> {
+    let alloc = rt.alloc();
+    let bytes = bytes_of(alloc, row)?;
+    match read_term(alloc, bytes.as_slice()) {
+        Ok(term) => {
+            let printed = write_term(alloc, &term)?;
+            let mut text = String::new(alloc);
+            for character in printed.as_slice() {
+                text.push(*character)?;
+            }
+            println!(rt; "    {text}")?;
+        }
+        Err(Fault::Refused(refusal)) => {
+            println!(rt;
+                "    refused at {}:{}",
+                refusal.place.line, refusal.place.column
+            )?;
+        }
+        Err(fault) => return Err(Fail::from(fault)),
+    }
+    Ok(())
+}
