@@ -1,5 +1,5 @@
 -- Each listed function on a value, and each that can raise on arguments that it refuses.
-use Rattle.std.proofs.Common.{◌≡◌, List, [], ◌∷◌, Some, true, false, pos, negsuc, codes, refl}
+use Rattle.std.proofs.Common.{◌≡◌, List, [], ◌∷◌, map, Some, true, false, pos, negsuc, codes, refl}
 use Rattle.erl_term.specs.Term as T
 use Rattle.erl_term.specs.Term.{Term, none, more, no_pair, pair}
 use Rattle.erl_term.specs.Terms.{word, truth}
@@ -41,10 +41,9 @@ record Case : Type 0 where
 abbrev on : Bif → List Term → Answer → Case
 on b ts a = record { bif = b; args = ts; gives = a }
 
--- the own pid is 3
+-- what each row answers where the own pid is 3, and what it says
 abbrev Hold : List Case → Type 0
-Hold [] = Unit {0}
-Hold (c ∷ cs) = (answer c.bif (T.pid 3) c.args ≡ c.gives) × Hold cs
+Hold cs = map (λ c. answer c.bif (T.pid 3) c.args) cs ≡ map (λ c. c.gives) cs
 
 abbrev values : List Case
 values =
@@ -111,7 +110,7 @@ values =
 
 values_hold : Hold values
 unfolding answer
-values_hold = (refl, (refl, (refl, (refl, (refl, (refl, (refl, (refl, (refl, (refl, (refl, (refl, (refl, (refl, (refl, (refl, (refl, (refl, (refl, (refl, (refl, (refl, (refl, (refl, (refl, (refl, (refl, (refl, (refl, (refl, (refl, (refl, (refl, (refl, (refl, (refl, (refl, (refl, (refl, (refl, (refl, (refl, (refl, (refl, (refl, (refl, (refl, (refl, (refl, (refl, (refl, (refl, (refl, (refl, (refl, (refl, (refl, (refl, (refl, tt)))))))))))))))))))))))))))))))))))))))))))))))))))))))))))
+values_hold = refl
 
 abbrev raises : List Case
 raises =
@@ -159,4 +158,4 @@ raises =
 
 raises_hold : Hold raises
 unfolding answer
-raises_hold = (refl, (refl, (refl, (refl, (refl, (refl, (refl, (refl, (refl, (refl, (refl, (refl, (refl, (refl, (refl, (refl, (refl, (refl, (refl, (refl, (refl, (refl, (refl, (refl, (refl, (refl, (refl, (refl, (refl, (refl, (refl, (refl, (refl, (refl, (refl, (refl, (refl, (refl, (refl, (refl, tt))))))))))))))))))))))))))))))))))))))))
+raises_hold = refl

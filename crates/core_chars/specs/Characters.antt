@@ -31,7 +31,8 @@ is_capital c = is_upper c || (is_in_range 192 222 c && not (c == 215)) || c == 9
 -- what goes on a word or a variable: ASCII letters and digits, the underscore, the at sign,
 -- and U+00C0 to U+00FF without the multiplication and the division sign
 abbrev pub is_name_char : ℕ → Bool
-is_name_char c = is_lower c || is_in_range 64 90 c || is_digit c || c == 95 || (is_in_range 192 255 c && not (c == 215) && not (c == 247))
+is_name_char c = is_lower c || is_in_range 64 90 c || is_digit c || c == 95
+    || (is_in_range 192 255 c && not (c == 215) && not (c == 247))
 
 abbrev pub is_sign : ℕ → Bool
 is_sign c = c == 43 || c == 45

@@ -16,8 +16,8 @@ abbrev pub more_of : Option (ℕ × ℕ) → ℕ
 more_of None = 0
 more_of (Some c) = c.1 - 1
 
--- The text up to the closing quote, and how many characters write it, that quote counted; None where no quote closes it or
--- an escape is none. The first `skip` characters belong to an escape that was read.
+-- The text up to the closing quote, and how many characters write it, that quote counted; None where no quote closes it
+-- or an escape is none. The first `skip` characters belong to an escape that was read.
 abbrev pub quoted_text : (quote : ℕ) → List ℕ → (skip : ℕ) → Option (List ℕ × ℕ)
 quoted_text quote [] skip = None
 quoted_text quote (c ∷ cs) (suc skip) = one_longer (quoted_text quote cs skip)

@@ -1,9 +1,8 @@
-//! What lexemes are made of: the classes of characters, escapes, quoted texts, names and the numbers that digits write. Each
-//! function equals one definition of `specs/`, and looks at no character behind those that it counts but the next.
+//! What lexemes are made of: the classes of characters, escapes, quoted texts, names and the numbers that digits write.
+//! Each function equals one definition of `specs/`, and looks at no character behind those that it counts but the next.
 //!
-//! What the contracts leave open is want of memory alone: `name_of`, `name_in`, `quoted_text` and `quoted_in` may answer it at any
-//! time.
-//! The tests of the crates above run them.
+//! What the contracts leave open is want of memory alone: `name_of`, `name_in`, `quoted_text` and `quoted_in` may
+//! answer it at any time. The tests of the crates above run them.
 #![tactic(auto)]
 
 mod classes;

@@ -117,7 +117,8 @@ abbrev mutual
 
   pub occurring_segments : Segments → Scope → List Use
   occurring_segments no_segment g = []
-  occurring_segments (and_segment (segment p v s u k f) ss) g = occurring v g ++ occurring s g ++ occurring_segments ss g
+  occurring_segments (and_segment (segment p v s u k f) ss) g =
+      occurring v g ++ occurring s g ++ occurring_segments ss g
 
   pub occurring_defs : Defs → Scope → List Use
   occurring_defs no_def g = []

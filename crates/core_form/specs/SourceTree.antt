@@ -1,5 +1,5 @@
--- The shape that the tree of a text always has (Core Erlang 1.0.3, section 4, as OTP 25 prints it): what could be written as a
--- constant is one, a list goes on in no list, right sides are funs, and names and constants have a text.
+-- The shape that the tree of a text always has (Core Erlang 1.0.3, section 4, as OTP 25 prints it): what could be
+-- written as a constant is one, a list goes on in no list, right sides are funs, and names and constants have a text.
 use Rattle.std.specs.Prelude.{◌≡◌, ℕ, zero, suc, ◌*◌, ◌^◌, ◌≤◌, List, [], ◌∷◌, length, Bool, true, false, not, ◌&&◌, ◌||◌, ltb, leb, eqb, IsTrue, ℤ, pos, Option, None, codes}
 use Rattle.std.specs.List.{list_all}
 use Rattle.erl_base.specs.Names.{Name, same_name}
@@ -72,7 +72,8 @@ has_item (and_expr e es) = true
 -- pairs that make a constant map: none of them asks for its key to be there
 abbrev pub are_constant_pairs : MapParts → Bool
 are_constant_pairs no_part = true
-are_constant_pairs (and_part (map_part k v exact) ps) = is_literal k && is_literal v && not exact && are_constant_pairs ps
+are_constant_pairs (and_part (map_part k v exact) ps) =
+    is_literal k && is_literal v && not exact && are_constant_pairs ps
 
 abbrev pub is_function : Expr → Bool
 is_function (fun p xs e) = true
@@ -153,11 +154,13 @@ source_pattern (tuple_like p qs) = not (are_known qs)
 source_pattern (map_like p ks) = keys_simple ks
 source_pattern (bits_like p ss) = segs_simple ss
 
--- Binaries of constant segments. Where a number was read as 0, since it is a float or too wide, the tree does not tell them.
+-- Binaries of constant segments. Where a number was read as 0, since it is a float or too wide, the tree does not tell
+-- them.
 
 abbrev pub is_flag : Term → Bool
 is_flag (T.atom a) =
-    same_name a (codes "signed") || same_name a (codes "unsigned") || same_name a (codes "big") || same_name a (codes "little")
+    same_name a (codes "signed") || same_name a (codes "unsigned") || same_name a (codes "big")
+    || same_name a (codes "little")
 is_flag _ = false
 
 -- a proper list of flags, `native` not among them

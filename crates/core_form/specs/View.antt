@@ -59,7 +59,8 @@ PatternAt = Place → Plain.Pattern
 -- a node whose children are read
 module _ (F : Type 0 → Type 0 → Type 0 → Type 0 → Type 0 → Type 0 → Type 0 → Type 0 → Type 0 → Type 0 → Type 0) where
   abbrev pub Read : Type 0
-  Read = F ExprAt PatternAt Plain.Clause Plain.Def Plain.Expr Plain.KeyPattern Plain.MapPart Plain.Pattern Plain.SegPattern Plain.Segment
+  Read = F ExprAt PatternAt Plain.Clause Plain.Def Plain.Expr Plain.KeyPattern Plain.MapPart Plain.Pattern
+      Plain.SegPattern Plain.Segment
 
 abbrev pub map_step : Place → Plain.MapParts → Option Plain.Expr → Plain.Expr
 map_step at ps None = Plain.new_map at ps
@@ -120,43 +121,53 @@ abbrev pub segment_step : Read Segment-F → Plain.Segment
 segment_step s = Plain.segment s.place s.value s.size (Terms.view s.unit) s.kind (Terms.view s.flags)
 
 abbrev pub view : Expr → Plain.Expr
-view = fold-Expr ExprAt PatternAt Plain.Clause Plain.Def Plain.Expr Plain.KeyPattern Plain.MapPart Plain.Pattern Plain.SegPattern Plain.Segment
+view = fold-Expr ExprAt PatternAt Plain.Clause Plain.Def Plain.Expr Plain.KeyPattern Plain.MapPart Plain.Pattern
+    Plain.SegPattern Plain.Segment
     form_step pattern_form_step clause_step def_step expr_step key_step part_step pattern_step seg_step segment_step
 
 abbrev pub form_view : ExprForm → ExprAt
-form_view = fold-ExprForm ExprAt PatternAt Plain.Clause Plain.Def Plain.Expr Plain.KeyPattern Plain.MapPart Plain.Pattern Plain.SegPattern Plain.Segment
+form_view = fold-ExprForm ExprAt PatternAt Plain.Clause Plain.Def Plain.Expr Plain.KeyPattern Plain.MapPart
+    Plain.Pattern Plain.SegPattern Plain.Segment
     form_step pattern_form_step clause_step def_step expr_step key_step part_step pattern_step seg_step segment_step
 
 abbrev pub part_view : MapPart → Plain.MapPart
-part_view = fold-MapPart ExprAt PatternAt Plain.Clause Plain.Def Plain.Expr Plain.KeyPattern Plain.MapPart Plain.Pattern Plain.SegPattern Plain.Segment
+part_view = fold-MapPart ExprAt PatternAt Plain.Clause Plain.Def Plain.Expr Plain.KeyPattern Plain.MapPart Plain.Pattern
+    Plain.SegPattern Plain.Segment
     form_step pattern_form_step clause_step def_step expr_step key_step part_step pattern_step seg_step segment_step
 
 abbrev pub segment_view : Segment → Plain.Segment
-segment_view = fold-Segment ExprAt PatternAt Plain.Clause Plain.Def Plain.Expr Plain.KeyPattern Plain.MapPart Plain.Pattern Plain.SegPattern Plain.Segment
+segment_view = fold-Segment ExprAt PatternAt Plain.Clause Plain.Def Plain.Expr Plain.KeyPattern Plain.MapPart
+    Plain.Pattern Plain.SegPattern Plain.Segment
     form_step pattern_form_step clause_step def_step expr_step key_step part_step pattern_step seg_step segment_step
 
 abbrev pub def_view : Def → Plain.Def
-def_view = fold-Def ExprAt PatternAt Plain.Clause Plain.Def Plain.Expr Plain.KeyPattern Plain.MapPart Plain.Pattern Plain.SegPattern Plain.Segment
+def_view = fold-Def ExprAt PatternAt Plain.Clause Plain.Def Plain.Expr Plain.KeyPattern Plain.MapPart Plain.Pattern
+    Plain.SegPattern Plain.Segment
     form_step pattern_form_step clause_step def_step expr_step key_step part_step pattern_step seg_step segment_step
 
 abbrev pub clause_view : Clause → Plain.Clause
-clause_view = fold-Clause ExprAt PatternAt Plain.Clause Plain.Def Plain.Expr Plain.KeyPattern Plain.MapPart Plain.Pattern Plain.SegPattern Plain.Segment
+clause_view = fold-Clause ExprAt PatternAt Plain.Clause Plain.Def Plain.Expr Plain.KeyPattern Plain.MapPart
+    Plain.Pattern Plain.SegPattern Plain.Segment
     form_step pattern_form_step clause_step def_step expr_step key_step part_step pattern_step seg_step segment_step
 
 abbrev pub pattern_view : Pattern → Plain.Pattern
-pattern_view = fold-Pattern ExprAt PatternAt Plain.Clause Plain.Def Plain.Expr Plain.KeyPattern Plain.MapPart Plain.Pattern Plain.SegPattern Plain.Segment
+pattern_view = fold-Pattern ExprAt PatternAt Plain.Clause Plain.Def Plain.Expr Plain.KeyPattern Plain.MapPart
+    Plain.Pattern Plain.SegPattern Plain.Segment
     form_step pattern_form_step clause_step def_step expr_step key_step part_step pattern_step seg_step segment_step
 
 abbrev pub pattern_form_view : PatternForm → PatternAt
-pattern_form_view = fold-PatternForm ExprAt PatternAt Plain.Clause Plain.Def Plain.Expr Plain.KeyPattern Plain.MapPart Plain.Pattern Plain.SegPattern Plain.Segment
+pattern_form_view = fold-PatternForm ExprAt PatternAt Plain.Clause Plain.Def Plain.Expr Plain.KeyPattern Plain.MapPart
+    Plain.Pattern Plain.SegPattern Plain.Segment
     form_step pattern_form_step clause_step def_step expr_step key_step part_step pattern_step seg_step segment_step
 
 abbrev pub key_view : KeyPattern → Plain.KeyPattern
-key_view = fold-KeyPattern ExprAt PatternAt Plain.Clause Plain.Def Plain.Expr Plain.KeyPattern Plain.MapPart Plain.Pattern Plain.SegPattern Plain.Segment
+key_view = fold-KeyPattern ExprAt PatternAt Plain.Clause Plain.Def Plain.Expr Plain.KeyPattern Plain.MapPart
+    Plain.Pattern Plain.SegPattern Plain.Segment
     form_step pattern_form_step clause_step def_step expr_step key_step part_step pattern_step seg_step segment_step
 
 abbrev pub seg_view : SegPattern → Plain.SegPattern
-seg_view = fold-SegPattern ExprAt PatternAt Plain.Clause Plain.Def Plain.Expr Plain.KeyPattern Plain.MapPart Plain.Pattern Plain.SegPattern Plain.Segment
+seg_view = fold-SegPattern ExprAt PatternAt Plain.Clause Plain.Def Plain.Expr Plain.KeyPattern Plain.MapPart
+    Plain.Pattern Plain.SegPattern Plain.Segment
     form_step pattern_form_step clause_step def_step expr_step key_step part_step pattern_step seg_step segment_step
 
 abbrev pub module_view : Module → Plain.Module

@@ -20,7 +20,8 @@ sized ts us = ordering_then (nat_cmp (count ts) (count us)) (compare_all ts us)
 
 -- by number, then by keys, then by values
 abbrev pub maps : Plain.Pairs → Plain.Pairs → Ordering
-maps ps qs = ordering_then (nat_cmp (pair_count ps) (pair_count qs)) (ordering_then (compare_keys ps qs) (compare_values ps qs))
+maps ps qs = ordering_then (nat_cmp (pair_count ps) (pair_count qs))
+    (ordering_then (compare_keys ps qs) (compare_values ps qs))
 
 -- module, site and arity of two local funs
 abbrev pub heads : List ℕ → ℕ → ℕ → List ℕ → ℕ → ℕ → Ordering
@@ -56,8 +57,10 @@ same_kind (form.List xs t) (form.List ys u) = cells (row xs) (view t) (row ys) (
 same_kind (form.Tuple xs) (form.Tuple ys) = sized (row xs) (row ys)
 same_kind (form.Map ps) (form.Map qs) = maps (pair_row ps) (pair_row qs)
 same_kind (form.Bits a) (form.Bits b) = slice_cmp bool_cmp (bits_view a) (bits_view b)
-same_kind (form.Fun m s a xs) (form.Fun n u b ys) = ordering_then (heads m s.0 a n u.0 b) (compare_all (row xs) (row ys))
-same_kind (form.Extern m f a) (form.Extern n g b) = ordering_then (slice_cmp nat_cmp m n) (ordering_then (slice_cmp nat_cmp f g) (nat_cmp a b))
+same_kind (form.Fun m s a xs) (form.Fun n u b ys) =
+    ordering_then (heads m s.0 a n u.0 b) (compare_all (row xs) (row ys))
+same_kind (form.Extern m f a) (form.Extern n g b) =
+    ordering_then (slice_cmp nat_cmp m n) (ordering_then (slice_cmp nat_cmp f g) (nat_cmp a b))
 same_kind (form.Pid a) (form.Pid b) = nat_cmp a b
 same_kind (form.Reference a) (form.Reference b) = nat_cmp a b
 same_kind (form.Port a) (form.Port b) = nat_cmp a b

@@ -12,7 +12,10 @@ no_list n = record { whole = n; rest = n }
 
 unfoldable mutual
   pub depths : Term → Depths
-  depths (cons x y) = record { whole = suc (max (depths x).whole (depths y).rest); rest = max (depths x).whole (depths y).rest }
+  depths (cons x y) = record {
+    whole = suc (max (depths x).whole (depths y).rest);
+    rest = max (depths x).whole (depths y).rest;
+  }
   depths (tuple ts) = no_list (suc (deepest ts))
   depths (map ps) = no_list (suc (deepest_pair ps))
   depths (fun m s a ts) = no_list (suc (deepest ts))

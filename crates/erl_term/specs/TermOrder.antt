@@ -1,4 +1,5 @@
--- The order of terms (Erlang's term order, with raw traces added; this project's own reading where Erlang leaves it open).
+-- The order of terms (Erlang's term order, with raw traces added; this project's own reading where Erlang leaves it
+-- open).
 use Rattle.std.specs.Prelude.{ℕ, suc, Bool, true, false}
 use Rattle.std.specs.Ordering.{nat_cmp, int_cmp, bool_cmp, ordering_then}
 use Rattle.std.specs.Cmp.Lexicographic.{slice_cmp}
@@ -44,13 +45,16 @@ unfoldable mutual
   compare (atom a) (atom b) = slice_cmp nat_cmp a b
   compare (reference a) (reference b) = nat_cmp a b
   compare (fun m s a ts) (fun n u b us) =
-      ordering_then (slice_cmp nat_cmp m n) (ordering_then (nat_cmp s u) (ordering_then (nat_cmp a b) (compare_all ts us)))
-  compare (extern m f a) (extern n g b) = ordering_then (slice_cmp nat_cmp m n) (ordering_then (slice_cmp nat_cmp f g) (nat_cmp a b))
+      ordering_then (slice_cmp nat_cmp m n)
+      (ordering_then (nat_cmp s u) (ordering_then (nat_cmp a b) (compare_all ts us)))
+  compare (extern m f a) (extern n g b) =
+      ordering_then (slice_cmp nat_cmp m n) (ordering_then (slice_cmp nat_cmp f g) (nat_cmp a b))
   compare (port a) (port b) = nat_cmp a b
   compare (pid a) (pid b) = nat_cmp a b
   compare (tuple ts) (tuple us) = ordering_then (nat_cmp (count ts) (count us)) (compare_all ts us)
   compare (map ps) (map qs) =
-      ordering_then (nat_cmp (pair_count ps) (pair_count qs)) (ordering_then (compare_keys ps qs) (compare_values ps qs))
+      ordering_then (nat_cmp (pair_count ps) (pair_count qs))
+      (ordering_then (compare_keys ps qs) (compare_values ps qs))
   compare nil nil = Equal
   compare (cons x y) (cons z w) = ordering_then (compare x z) (compare y w)
   compare (bits a) (bits b) = slice_cmp bool_cmp a b

@@ -70,7 +70,8 @@ plain b = record { normal = b; listed = false }
 
 -- a list has an item, and its tail is no list with items
 abbrev pub layout_step : Term-F Layout Bool → Layout
-layout_step (form.List items tail) = record { normal = has_items items && all_normal items && tail.normal && not tail.listed; listed = true }
+layout_step (form.List items tail) =
+    record { normal = has_items items && all_normal items && tail.normal && not tail.listed; listed = true }
 layout_step (form.Tuple items) = plain (all_normal items)
 layout_step (form.Map ps) = plain (pairs_normal ps)
 layout_step (form.Bits b) = plain (bits_fit b)

@@ -1,7 +1,7 @@
 //! Terms: their types and copies, their order, and how deep they nest.
 //!
-//! Clauses speak of the plain term that a value stands for. The functions of `laws` have no body: their clauses are laws
-//! of the definitions that the working clauses cite.
+//! Clauses speak of the plain term that a value stands for. The functions of `laws` have no body: their clauses are
+//! laws of the definitions that the working clauses cite.
 #![tactic(auto)]
 
 mod depth;

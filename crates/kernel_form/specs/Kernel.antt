@@ -1,5 +1,6 @@
 -- Kernel form as plain trees (this project's own): lets over simple steps, with decision trees in place of clauses.
--- Variables, receives and falls are numbers. A list of nodes is a family of its own, `no_..` or `and_..` an item and the rest.
+-- Variables, receives and falls are numbers. A list of nodes is a family of its own, `no_..` or `and_..` an item and
+-- the rest.
 use Rattle.std.specs.Prelude.{ℕ, Bool, List}
 use Rattle.erl_base.specs.Names.{Name}
 use Rattle.erl_base.specs.declared.ids.FunKey.{FunKey}

@@ -21,8 +21,10 @@ list_any-key_eq k (x ∷ xs) = ap₂ ◌||◌ (key_eq-same_key k x) (list_any-ke
 
 pub map-insert : (k : Key) (ks : List Key) → map key_view (if list_any (key_eq k) ks then ks else ks ++ k ∷ [])
     ≡ (if is_key (key_view k) (map key_view ks) then map key_view ks else map key_view ks ++ key_view k ∷ [])
-map-insert k ks = by (list_any (key_eq k) ks) ∙ ap (λ b. if b then map key_view ks else map key_view ks ++ key_view k ∷ []) (list_any-key_eq k ks)
+map-insert k ks = by (list_any (key_eq k) ks)
+    ∙ ap (λ b. if b then map key_view ks else map key_view ks ++ key_view k ∷ []) (list_any-key_eq k ks)
   where
-    by : (b : Bool) → map key_view (if b then ks else ks ++ k ∷ []) ≡ (if b then map key_view ks else map key_view ks ++ key_view k ∷ [])
+    by : (b : Bool) → map key_view (if b then ks else ks ++ k ∷ [])
+        ≡ (if b then map key_view ks else map key_view ks ++ key_view k ∷ [])
     by true = refl
     by false = map-append key_view ks (k ∷ [])

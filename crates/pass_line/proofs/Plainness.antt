@@ -16,8 +16,10 @@ length-keys_of : (ds : List Def) → length (keys_of (defs (map def_view ds))) �
 length-keys_of [] = refl
 length-keys_of (d ∷ ds) = ap suc (length-keys_of ds)
 
-pub too_many : (ds : List Def) → 20000 < length ds → IsTrue (nat_le (length (keys_of (defs (map def_view ds)))) 20000) → ⊥
-too_many ds h t = let l : nat_le (length ds) 20000 ≡ true = subst (λ n. nat_le n 20000 ≡ true) (length-keys_of ds) t in grind (arith, l)
+pub too_many : (ds : List Def) → 20000 < length ds → IsTrue (nat_le (length (keys_of (defs (map def_view ds)))) 20000)
+    → ⊥
+too_many ds h t = let l : nat_le (length ds) 20000 ≡ true =
+    subst (λ n. nat_le n 20000 ≡ true) (length-keys_of ds) t in grind (arith, l)
 
 pub few : (ds : List Def) → length ds ≤ 20000 → IsTrue (nat_le (length (keys_of (defs (map def_view ds)))) 20000)
 few ds h = subst (λ n. nat_le n 20000 ≡ true) (sym (length-keys_of ds)) (search (rules, h))
@@ -43,11 +45,13 @@ told m known b size name functions new all none e = (
   λ p. e ∙ subst (λ ks. are_known ks m.exports ≡ true) (sym all) p.known_exports,
 )
 
-pub doubled : (ds : List Def) → are_new [] (keys_of (defs (map def_view ds))) ≡ false → IsTrue (keys_distinct (keys_of (defs (map def_view ds)))) → ⊥
+pub doubled : (ds : List Def) → are_new [] (keys_of (defs (map def_view ds))) ≡ false
+    → IsTrue (keys_distinct (keys_of (defs (map def_view ds)))) → ⊥
 doubled ds e t = true≢false (sym t ∙ sym (are_new-keys_distinct (keys_of (defs (map def_view ds)))) ∙ e)
 
 pub small : (m : Module) → IsPlain (module_view m) → length m.defs ≤ 20000
-small m p = let l : nat_le (length m.defs) 20000 ≡ true = subst (λ n. nat_le n 20000 ≡ true) (length-keys_of m.defs) p.few_functions in grind (arith, l)
+small m p = let l : nat_le (length m.defs) 20000 ≡ true =
+    subst (λ n. nat_le n 20000 ≡ true) (length-keys_of m.defs) p.few_functions in grind (arith, l)
 
 -- an attribute is there
 pub attributed : (m : Module) → (m.attributes ≡ [] → ⊥) → IsPlain (module_view m) → ⊥

@@ -166,16 +166,26 @@ unfoldable mutual
 
   pub params_more : (found : List Def) → FunName → Place → (xs : List Binder) → List Token → Option (List Def)
   params_more found f p xs [] = None
-  params_more found f p xs (t ∷ ts) = if is_variable t.kind then params_after found f p (xs ++ binder t ∷ []) ts else None
+  params_more found f p xs (t ∷ ts) =
+      if is_variable t.kind then params_after found f p (xs ++ binder t ∷ []) ts else None
 
   pub body : (found : List Def) → FunName → Place → (xs : List Binder) → List Token → Option (List Def)
-  body found f p xs (w ∷ e ∷ ts) = if is_arrow w.kind && is_value e.kind then defs (found ++ def_of f p xs e ∷ []) ts else None
+  body found f p xs (w ∷ e ∷ ts) =
+      if is_arrow w.kind && is_value e.kind then defs (found ++ def_of f p xs e ∷ []) ts else None
   body found f p xs _ = None
 
 -- a module
 
 abbrev pub module_of : Name → List FunName → List Def → Module
-module_of name exports ds = record { name = name; exports = exports; attributes = []; defs = View.defs ds; floats = None; wide = None; long = None }
+module_of name exports ds = record {
+  name = name;
+  exports = exports;
+  attributes = [];
+  defs = View.defs ds;
+  floats = None;
+  wide = None;
+  long = None;
+}
 
 abbrev pub opens_module : (word bracket : Token) → Bool
 opens_module w o = is_module_word w.kind && is_open_bracket o.kind

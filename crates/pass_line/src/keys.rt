@@ -68,7 +68,8 @@ impl KeySet {
     /// Adds a key, and tells whether it is a new one.
     pub fn insert(&mut self, alloc: Global, key: &FunKey) -> Result<bool, NoMemory>
         ensures added { IfOk result (λ added. added ≡ not (is_key key.now self.old)) }
-        ensures keys { OnOk result (self.new ≡ (if is_key key.now self.old then self.old else self.old ++ key.now ∷ [])) }
+        ensures keys { OnOk result (self.new
+            ≡ (if is_key key.now self.old then self.old else self.old ++ key.now ∷ [])) }
     {
         let key = Key::of(alloc, key)?;
         Ok(self.set.insert(key)?)

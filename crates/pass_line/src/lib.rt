@@ -1,8 +1,8 @@
 //! The compiler on bytes, today for plain modules: functions that give an integer, an atom or one of their parameters.
 //! It does not see files or notes.
 //!
-//! Memory may be refused at any time: a body that always refuses it meets the contract, and the test shows that the call
-//! succeeds.
+//! Memory may be refused at any time: a body that always refuses it meets the contract, and the test shows that the
+//! call succeeds.
 #![tactic(auto)]
 
 ghost use Rattle.std.specs.Prelude.{IfOk, IfErr};

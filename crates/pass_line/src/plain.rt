@@ -128,7 +128,8 @@ fn are_plain(alloc: Global, ds: &[Def]) -> Result<bool, NoMemory>
 // The keys of the definitions, where each is a new one.
 fn keys(alloc: Global, ds: &[Def]) -> Result<Option<KeySet>, NoMemory>
     ensures { IfOk result (λ found. MatchOption found (are_new [] (keys_of (defs (map def_view ds.now))) ≡ false)
-        (λ known. (are_new [] (keys_of (defs (map def_view ds.now))) ≡ true) × (known ≡ keys_of (defs (map def_view ds.now))))) }
+        (λ known. (are_new [] (keys_of (defs (map def_view ds.now))) ≡ true)
+        × (known ≡ keys_of (defs (map def_view ds.now))))) }
 {
     let mut known = KeySet::new(alloc);
     for def in ds {

@@ -1,5 +1,5 @@
--- What the text of a term is written with: blanks, marks, words, quoted texts and integers. A word and an integer are as
--- long as they can be. Each function gives what stands at the front, and the characters that are left behind it.
+-- What the text of a term is written with: blanks, marks, words, quoted texts and integers. A word and an integer are
+-- as long as they can be. Each function gives what stands at the front, and the characters that are left behind it.
 use Rattle.std.specs.Prelude.{ℕ, ℤ, pos, negsuc, neg_ℤ, ◌-◌, ◌^◌, ◌==◌, ◌||◌, nat_le, nat_lt, List, [], ◌∷◌, Bool, true, false, not, length, drop, take_while, Option, Some, None, if◌then◌else◌, codes}
 use Rattle.erl_base.specs.Names.{Name, same_name}
 use Rattle.core_chars.specs.Characters.{is_lower, is_digit, is_sign, first_is, value_from}
@@ -19,7 +19,8 @@ is_blank c = c == 32 || c == 9 || c == 10 || c == 13
 abbrev pub blanks_skipped : (in_comment : Bool) → List ℕ → List ℕ
 blanks_skipped b [] = []
 blanks_skipped true (c ∷ cs) = blanks_skipped (not (c == 10)) cs
-blanks_skipped false (c ∷ cs) = if is_blank c then blanks_skipped false cs else if c == 37 then blanks_skipped true cs else c ∷ cs
+blanks_skipped false (c ∷ cs) =
+    if is_blank c then blanks_skipped false cs else if c == 37 then blanks_skipped true cs else c ∷ cs
 
 unfoldable pub behind_blanks : List ℕ → List ℕ
 behind_blanks cs = blanks_skipped false cs
@@ -73,7 +74,8 @@ with_rest (Some x) cs = Some (x, cs)
 
 unfoldable pub digits_front : (minus : Bool) → List ℕ → Option (ℤ × List ℕ)
 digits_front minus cs =
-    if first_is is_digit cs then with_rest (integer_of minus (value_from 10 0 (run_of is_digit cs).0)) (run_of is_digit cs).1 else None
+    if first_is is_digit cs then with_rest (integer_of minus (value_from 10 0 (run_of is_digit cs).0))
+    (run_of is_digit cs).1 else None
 
 -- an integer: a sign or none directly before digits
 abbrev pub integer_front : List ℕ → Option (ℤ × List ℕ)

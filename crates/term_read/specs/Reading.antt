@@ -24,7 +24,8 @@ abbrev pub choice : {A : Type 0} → Option (List ℕ) → (List ℕ → Option 
 choice None f other = other
 choice (Some cs) f other = f cs
 
-abbrev pub and_items : {A : Type 0} → A × List ℕ → Option (List ℕ) → (List ℕ → Option (List A × List ℕ)) → Option (List A × List ℕ)
+abbrev pub and_items : {A : Type 0} → A × List ℕ → Option (List ℕ) → (List ℕ → Option (List A × List ℕ))
+    → Option (List A × List ℕ)
 and_items x None next = Some (x.0 ∷ [], x.1)
 and_items x (Some cs) next = next cs >>= λ xs. Some (x.0 ∷ xs.0, xs.1)
 
@@ -47,9 +48,11 @@ before_tail ts None = None
 before_tail ts (Some tail) = Some (list_of ts tail.0, tail.1)
 
 -- items with commas between or none, up to a closing mark
-unfoldable pub row_of : {A : Type 0} → (List ℕ → Option (A × List ℕ)) → (close : List ℕ) → List ℕ → Option (List A × List ℕ)
+unfoldable pub row_of : {A : Type 0} → (List ℕ → Option (A × List ℕ)) → (close : List ℕ) → List ℕ
+    → Option (List A × List ℕ)
 row_of p close cs =
-    choice (mark_at close cs) (λ ds. Some ([], ds)) (items_of p cs >>= λ xs. mark_at close xs.1 >>= λ ds. Some (xs.0, ds))
+    choice (mark_at close cs) (λ ds. Some ([], ds))
+    (items_of p cs >>= λ xs. mark_at close xs.1 >>= λ ds. Some (xs.0, ds))
 
 unfoldable pub list_end : (List ℕ → Option (Term × List ℕ)) → List ℕ → Option (Term × List ℕ)
 list_end p cs =
@@ -93,13 +96,17 @@ identifier_by cs =
     (choice (behind_mark (codes "Trace<") cs) trace_by None)))
 
 unfoldable pub hash_by : (List ℕ → Option (Term × List ℕ)) → List ℕ → Option (Term × List ℕ)
-hash_by p cs = choice (behind_mark (codes "{") cs) (map_by p) (choice (behind_mark (codes "Fun<") cs) (fun_by p) (identifier_by cs))
+hash_by p cs = choice (behind_mark (codes "{") cs) (map_by p)
+    (choice (behind_mark (codes "Fun<") cs) (fun_by p) (identifier_by cs))
 
 unfoldable pub part_row : List ℕ → Option (Term × List ℕ)
-part_row cs = row_of part_at (codes ">>") cs >>= λ ps. if whole_before_last ps.0 then Some (T.bits (bits_in ps.0), ps.1) else None
+part_row cs = row_of part_at (codes ">>") cs >>= λ ps. if whole_before_last ps.0 then Some (T.bits (bits_in ps.0), ps.1)
+    else None
 
 unfoldable pub byte_text : List ℕ → Option (Term × List ℕ)
-byte_text cs = quoted_rest 34 cs >>= λ s. if list_all is_byte s.0 then (mark_at (codes ">>") s.1 >>= λ ds. Some (T.bits (byte_bits s.0), ds)) else None
+byte_text cs = quoted_rest 34 cs
+    >>= λ s. if list_all is_byte s.0 then (mark_at (codes ">>") s.1 >>= λ ds. Some (T.bits (byte_bits s.0), ds))
+    else None
 
 -- behind `<<`
 unfoldable pub bits_by : List ℕ → Option (Term × List ℕ)
@@ -110,7 +117,8 @@ abbrev pub angle_by : List ℕ → Option (Term × List ℕ)
 angle_by cs = behind_mark (codes "<") cs >>= bits_by
 
 unfoldable pub string_by : ℕ → List ℕ → Option (Term × List ℕ)
-string_by d cs = quoted_rest 34 cs >>= λ s. if string_fits d s.0 then Some (list_of (map code_point s.0) T.nil, s.1) else None
+string_by d cs = quoted_rest 34 cs >>= λ s. if string_fits d s.0 then Some (list_of (map code_point s.0) T.nil, s.1)
+    else None
 
 abbrev pub of_word : Name × List ℕ → Option (Term × List ℕ)
 of_word w = if same_name (codes "fun") w.0 then extern_rest w.1 else Some (T.atom w.0, w.1)

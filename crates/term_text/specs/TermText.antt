@@ -47,9 +47,11 @@ unfoldable mutual
   texts (tuple ts) = no_list (λ r. codes "{" ++ row_on true ts (codes "}" ++ r))
   texts (map ps) = no_list (λ r. codes "#{" ++ pairs_on true ps (codes "}" ++ r))
   texts (bits bs) = no_list (λ r. codes "<<" ++ bits_on true bs (codes ">>" ++ r))
-  texts (fun m s a ts) = no_list (λ r. codes "#Fun<" ++ (atom_text m ++ (codes "," ++ decimal_on s (codes "," ++ decimal_on a (codes ",["
+  texts (fun m s a ts) = no_list
+      (λ r. codes "#Fun<" ++ (atom_text m ++ (codes "," ++ decimal_on s (codes "," ++ decimal_on a (codes ",["
       ++ row_on true ts (codes "]>" ++ r))))))
-  texts (extern m f a) = no_list (λ r. codes "fun " ++ (atom_text m ++ (codes ":" ++ (atom_text f ++ (codes "/" ++ decimal_on a r)))))
+  texts (extern m f a) = no_list
+      (λ r. codes "fun " ++ (atom_text m ++ (codes ":" ++ (atom_text f ++ (codes "/" ++ decimal_on a r)))))
   texts (pid n) = no_list (marked_on (codes "#Pid<") n)
   texts (reference n) = no_list (marked_on (codes "#Ref<") n)
   texts (port n) = no_list (marked_on (codes "#Port<") n)

@@ -2,8 +2,8 @@
 //!
 //! A list of 1 and of the string `a`, with a map behind the bar, is printed as `[1,[97]|#{}]`.
 //!
-//! Memory may be refused at any time: bodies that always answer `NoMemory` meet the contracts, and the tests of `term_read` run
-//! each call with ample memory.
+//! Memory may be refused at any time: bodies that always answer `NoMemory` meet the contracts, and the tests of
+//! `term_read` run each call with ample memory.
 #![tactic(auto)]
 
 mod atoms;

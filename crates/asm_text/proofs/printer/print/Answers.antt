@@ -8,16 +8,23 @@ use Rattle.asm_text.proofs.printer.print.Goals as goal
 
 pub loop-function-init : goal.loop-function-init
 unfolding printed
-loop-function-init c = record { has_text = c.requires.functions; added = c.in_ok-put_first.ensures _ ∙ ap (λ x. x ++ printed (module_view c.args.a.now)) c.new-out.ensures }
+loop-function-init c = record {
+  has_text = c.requires.functions;
+  added = c.in_ok-put_first.ensures _ ∙ ap (λ x. x ++ printed (module_view c.args.a.now)) c.new-out.ensures;
+}
 
 pub put_code-requires : goal.put_code-requires
 put_code-requires c =
-    let cons : drop c.loop-function.function-index c.args.a.now.funs ≡ c.function-item.result ∷ drop (c.loop-function.function-index + 1) c.args.a.now.funs = grind (arith, common_steps) in
+    let cons : drop c.loop-function.function-index c.args.a.now.funs
+    ≡ c.function-item.result ∷ drop (c.loop-function.function-index + 1) c.args.a.now.funs =
+    grind (arith, common_steps) in
     rw c.as_slice.ensures (next_function _ _ _ cons c.loop-function.invariant.has_text)
 
 pub loop-function-preserved : goal.loop-function-preserved
 loop-function-preserved c =
-    let cons : drop c.loop-function.function-index c.args.a.now.funs ≡ c.function-item.result ∷ drop (c.loop-function.function-index + 1) c.args.a.now.funs = grind (arith, common_steps) in
+    let cons : drop c.loop-function.function-index c.args.a.now.funs
+    ≡ c.function-item.result ∷ drop (c.loop-function.function-index + 1) c.args.a.now.funs =
+    grind (arith, common_steps) in
     let code = rw c.as_slice.ensures at c.in_ok-put_code.ensures in
     record {
       has_text = other_functions _ _ _ cons c.loop-function.invariant.has_text;

@@ -15,5 +15,6 @@ returns-in-None c = (λ t. absurd cc, λ p. absurd (doubled c.args.tree.now.defs
 pub returns-in-Some : goal.returns-in-Some
 returns-in-Some c =
     ok_then c.are_known.result c.are_known.ensures
-    (λ b e. told c.args.tree.now c.in-Some.known b (omega arith) (search rules) (search rules) (search rules) (search rules) (search rules)
+    (λ b e. told c.args.tree.now c.in-Some.known b (omega arith) (search rules) (search rules) (search rules)
+    (search rules) (search rules)
     (e ∙ ap (are_known c.in-Some.known) c.as_slice-in-Some.ensures))

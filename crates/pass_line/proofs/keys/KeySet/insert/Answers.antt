@@ -6,7 +6,8 @@ use Rattle.pass_line.proofs.keys.KeySet.insert.Goals as goal
 
 pub returns-clause-added : goal.returns-clause-added
 returns-clause-added c =
-    c.in_ok-insert.ensures.added ∙ ap not (list_any-key_eq c.in_ok-key.key c.self.inside.set.keys ∙ ap₂ is_key c.in_ok-key.ensures c.self.view_is)
+    c.in_ok-insert.ensures.added
+    ∙ ap not (list_any-key_eq c.in_ok-key.key c.self.inside.set.keys ∙ ap₂ is_key c.in_ok-key.ensures c.self.view_is)
 
 pub returns-clause-keys : goal.returns-clause-keys
 returns-clause-keys c =
