@@ -36,6 +36,7 @@ long_hex_escape cs = let digits = take_while is_hex cs in
     if nat_le 1 (length digits) && first_is (λ c. c == 125) (drop (length digits) cs)
     then code_escape (value_from 16 0 digits) (4 + length digits) else None
 
+-- behind `\x`: digits between braces, or two digits
 abbrev pub hex_escape : List ℕ → Option (ℕ × ℕ)
 hex_escape cs = if first_is (λ c. c == 123) cs then long_hex_escape (drop 1 cs) else short_hex_escape cs
 

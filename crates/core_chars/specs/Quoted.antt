@@ -2,11 +2,13 @@
 use Rattle.std.specs.Prelude.{ℕ, zero, suc, ◌+◌, ◌-◌, ◌==◌, List, [], ◌∷◌, if◌then◌else◌, Option, Some, None}
 use Rattle.core_chars.specs.Escapes.{quoted_char}
 
+-- a character that was read before a text, and how many characters write it
 abbrev pub with_char : Option (ℕ × ℕ) → Option (List ℕ × ℕ) → Option (List ℕ × ℕ)
 with_char None later = None
 with_char (Some c) None = None
 with_char (Some c) (Some text) = Some (c.0 ∷ text.0, text.1 + 1)
 
+-- the same text, one character later
 abbrev pub one_longer : Option (List ℕ × ℕ) → Option (List ℕ × ℕ)
 one_longer None = None
 one_longer (Some text) = Some (text.0, text.1 + 1)

@@ -83,6 +83,7 @@ module _ {A : Type 0} (at : Expr → Scope → List ℕ → List A) where
 
 -- Uses of a binding.
 
+-- how often a variable is used
 abbrev pub times : ℕ → List Use → ℕ
 times n [] = 0
 times n (u ∷ us) = if eqb u.number n then suc (times n us) else times n us

@@ -135,6 +135,7 @@ quoted_lexeme kind (Some text) = of_kind (kind text.0) (1 + text.1)
 unfoldable pub atom_at : List ℕ → Lexeme
 atom_at cs = quoted_lexeme Atom (quoted_text single_quote (drop 1 cs) 0)
 
+-- a string between double quotes
 unfoldable pub string_at : List ℕ → Lexeme
 string_at cs = quoted_lexeme Letters (quoted_text double_quote (drop 1 cs) 0)
 
@@ -143,6 +144,7 @@ abbrev pub character_lexeme : Option (ℕ × ℕ) → Lexeme
 character_lexeme None = bad
 character_lexeme (Some c) = of_kind (Character c.0) (1 + c.1)
 
+-- a character behind `$`
 unfoldable pub character_at : List ℕ → Lexeme
 character_at cs = character_lexeme (quoted_char (drop 1 cs))
 

@@ -39,6 +39,7 @@ rest Equal t u = compare t u
 rest Greater t u = nat_cmp 10 (rank u)
 rest Less t u = nat_cmp (rank t) 10
 
+-- two lists by their items, then by their lengths and what ends them
 abbrev pub cells : Plain.Terms → Plain.Term → Plain.Terms → Plain.Term → Ordering
 cells ts t us u = ordering_then (common ts us) (rest (nat_cmp (count ts) (count us)) t u)
 
@@ -46,6 +47,7 @@ cells ts t us u = ordering_then (common ts us) (rest (nat_cmp (count ts) (count 
 abbrev pub row : List Term → Plain.Terms
 row ts = terms (map view ts)
 
+-- the plain pairs of a map
 abbrev pub pair_row : List Pair → Plain.Pairs
 pair_row ps = pairs (map pair_view ps)
 
@@ -67,6 +69,7 @@ same_kind (form.Port a) (form.Port b) = nat_cmp a b
 same_kind (form.RawTrace a) (form.RawTrace b) = nat_cmp (class_rank (class_view a)) (class_rank (class_view b))
 same_kind _ _ = Equal
 
+-- two values of one kind
 abbrev pub same_kind_of : Term → Term → Ordering
 same_kind_of a b = same_kind (out-Term a) (out-Term b)
 
@@ -74,12 +77,15 @@ same_kind_of a b = same_kind (out-Term a) (out-Term b)
 abbrev pub AllNormal : List Term → Type 0
 AllNormal ts = IsTrue (all_normal (map layout ts))
 
+-- all pairs are in normal form
 abbrev pub PairsNormal : List Pair → Type 0
 PairsNormal ps = IsTrue (pairs_normal (map pair_normal ps))
 
+-- the values of all pairs are in normal form
 abbrev pub values_normal : List Pair → Bool
 values_normal [] = true
 values_normal (p ∷ ps) = (layout p.value).normal && values_normal ps
 
+-- the same, as a fact
 abbrev pub ValuesNormal : List Pair → Type 0
 ValuesNormal ps = IsTrue (values_normal ps)

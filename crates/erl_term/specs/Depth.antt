@@ -7,6 +7,7 @@ pub record Depths : Type 0 where
   pub whole : ℕ
   pub rest : ℕ
 
+-- what is no list nests as the rest of a list as deep as on its own
 abbrev pub no_list : ℕ → Depths
 no_list n = record { whole = n; rest = n }
 
@@ -29,5 +30,6 @@ unfoldable mutual
   deepest_pair no_pair = 0
   deepest_pair (pair k v ps) = max (max (depths k).whole (depths v).whole) (deepest_pair ps)
 
+-- how deep a term nests
 abbrev pub depth : Term → ℕ
 depth t = (depths t).whole

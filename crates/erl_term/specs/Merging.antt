@@ -31,6 +31,7 @@ Taken None ps qs ps' qs' = (ps ≡ []) × (qs ≡ []) × (ps' ≡ []) × (qs' �
 Taken (Some p) ps qs ps' qs' =
     (merge ps qs ≡ Plain.pair (pair_view p).0 (pair_view p).1 (merge ps' qs')) × IsTrue (pair_normal p)
 
+-- where a pair was taken, fewer are left
 abbrev pub Fewer : Option Pair → (ps qs ps' qs' : List Pair) → Type 0
 Fewer None ps qs ps' qs' = Unit {0}
 Fewer (Some p) ps qs ps' qs' = length ps' + length qs' < length ps + length qs

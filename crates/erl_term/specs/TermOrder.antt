@@ -7,6 +7,7 @@ use Rattle.std.specs.declared.cmp.Ordering.{Ordering}
 use Rattle.std.specs.declared.cmp.Ordering.TheVariants.{Less, Equal, Greater}
 use Rattle.erl_term.specs.Term.{Term, int, atom, nil, cons, tuple, map, bits, fun, extern, pid, reference, port, raw_trace, Terms, none, more, Pairs, no_pair, pair, Class, error, exit, throw}
 
+-- error before exit before throw
 abbrev pub class_rank : Class → ℕ
 class_rank error = 0
 class_rank exit = 1
@@ -29,10 +30,12 @@ rank (cons x y) = 10
 rank (bits bs) = 11
 rank (raw_trace c) = 12
 
+-- how many terms
 abbrev pub count : Terms → ℕ
 count none = 0
 count (more t ts) = suc (count ts)
 
+-- how many pairs
 abbrev pub pair_count : Pairs → ℕ
 pair_count no_pair = 0
 pair_count (pair k v ps) = suc (pair_count ps)
@@ -80,6 +83,7 @@ unfoldable mutual
   compare_values (pair k v ps) no_pair = Greater
   compare_values (pair k v ps) (pair l w qs) = ordering_then (compare v w) (compare_values ps qs)
 
+-- neither is less
 abbrev pub is_equal : Ordering → Bool
 is_equal Less = false
 is_equal Equal = true

@@ -8,6 +8,7 @@ use Rattle.erl_term.specs.Term.{Term}
 use Rattle.erl_term.specs.Segments as Segments
 use Rattle.bif_table.specs.Builtins.{Bif}
 
+-- a variable by its number, or a literal
 pub data Value : Type 0 where
   var : ℕ → Value
   lit : Term → Value
@@ -149,6 +150,7 @@ pub record Fun : Type 0 where
   pub next : ℕ
   pub body : Expr
 
+-- a module in kernel form
 pub record Kernel : Type 0 where
   pub name : Name
   pub exports : List FunKey

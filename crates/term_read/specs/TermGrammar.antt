@@ -42,13 +42,16 @@ of_size n None = None
 of_size n (Some size) = if nat_le 1 size.0
     && nat_lt n (2 ^ size.0) then Some (record { number = n; size = size.0 }, size.1) else None
 
+-- a part of a binary with its size, which is 8 where none is written
 abbrev pub sized : ℕ × List ℕ → Option (List ℕ) → Option (Part × List ℕ)
 sized n None = Some (record { number = n.0; size = 8 }, n.1)
 sized n (Some cs) = of_size n.0 (number_at 8 cs)
 
+-- a part of a binary: its number and its size
 unfoldable pub part_at : List ℕ → Option (Part × List ℕ)
 part_at cs = number_at 256 cs >>= λ n. sized n (mark_at (codes ":") n.1)
 
+-- the same, as a relation
 abbrev pub PartOf : List ℕ → Part → List ℕ → Type 0
 PartOf cs p ds = part_at cs ≡ Some (p, ds)
 
@@ -58,6 +61,7 @@ whole_before_last [] = true
 whole_before_last (p ∷ []) = true
 whole_before_last (p ∷ q ∷ ps) = p.size == 8 && whole_before_last (q ∷ ps)
 
+-- the bits of parts, in their order
 abbrev pub bits_in : List Part → List Bool
 bits_in [] = []
 bits_in (p ∷ ps) = bits_of p.size p.number ++ bits_in ps
@@ -82,6 +86,7 @@ fun_head cs =
     number_at (2 ^ 32) es >>= λ n. mark_at (codes ",") n.1 >>= λ fs. mark_at (codes "[") fs >>= λ gs.
     Some (record { home = m.0; site = s.0; arity = n.0 }, gs)
 
+-- the class that an atom names
 abbrev pub class_named : Name → Option Class
 class_named a =
     if same_name (codes "error") a then Some error else if same_name (codes "exit") a then Some exit
@@ -94,6 +99,7 @@ class_in cs = word_front (behind_blanks cs) >>= λ w. class_named w.0 >>= λ c. 
 
 -- Terms.
 
+-- a character as a term
 abbrev pub code_point : ℕ → Term
 code_point c = T.int (pos c)
 
@@ -103,6 +109,7 @@ string_fits d [] = true
 string_fits zero (c ∷ cs) = false
 string_fits (suc d) (c ∷ cs) = true
 
+-- 0 to 255
 abbrev pub is_byte : ℕ → Bool
 is_byte c = nat_lt c 256
 

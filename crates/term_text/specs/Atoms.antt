@@ -19,6 +19,7 @@ kept_words =
 abbrev pub is_name_character : ℕ → Bool
 is_name_character c = is_lower c || is_upper c || is_digit c || c == 95 || c == 64
 
+-- a word that the language keeps for itself
 abbrev pub is_kept : Name → Bool
 is_kept a = list_any (λ w. same_name w a) kept_words
 
@@ -34,9 +35,11 @@ quoted_character c =
     if c == 92 then codes "\\\\" else if c == 39 then codes "\\'"
     else if nat_le c 31 || c == 127 then codes "\\x{" ++ digits 16 false c ++ codes "}" else c ∷ []
 
+-- the characters between the quotes
 abbrev pub quoted_characters : Name → List ℕ
 quoted_characters [] = []
 quoted_characters (c ∷ cs) = quoted_character c ++ quoted_characters cs
 
+-- the text of an atom
 abbrev pub atom_text : Name → List ℕ
 atom_text a = if is_plain_name a then a else codes "'" ++ quoted_characters a ++ codes "'"

@@ -18,6 +18,7 @@ bits_on first (a ∷ b ∷ c ∷ d ∷ e ∷ f ∷ g ∷ h ∷ bs) r =
     comma first ++ decimal_on (number_from 0 (a ∷ b ∷ c ∷ d ∷ e ∷ f ∷ g ∷ h ∷ [])) (bits_on false bs r)
 bits_on first bs r = comma first ++ decimal_on (number_from 0 bs) (codes ":" ++ decimal_on (length bs) r)
 
+-- the word of a class
 abbrev pub class_text : Class → List ℕ
 class_text error = codes "error"
 class_text exit = codes "exit"
@@ -32,6 +33,7 @@ pub record Texts : Type 0 where
   pub whole : List ℕ → List ℕ
   pub rest : List ℕ → List ℕ
 
+-- the texts of a term that is no list
 abbrev pub no_list : (List ℕ → List ℕ) → Texts
 no_list text = record { whole = text; rest = λ r. codes "|" ++ text (codes "]" ++ r) }
 
@@ -66,6 +68,7 @@ unfoldable mutual
   pairs_on first no_pair r = r
   pairs_on first (pair k v ps) r = comma first ++ (texts k).whole (codes "=>" ++ (texts v).whole (pairs_on false ps r))
 
+-- the text of a term, before what follows
 abbrev pub term_on : Term → List ℕ → List ℕ
 term_on t r = (texts t).whole r
 
@@ -73,5 +76,6 @@ term_on t r = (texts t).whole r
 abbrev pub rest_on : Term → List ℕ → List ℕ
 rest_on t r = (texts t).rest r
 
+-- the text of a term
 abbrev pub printed : Term → List ℕ
 printed t = term_on t []

@@ -22,15 +22,18 @@ use Rattle.erl_base.specs.declared.list.List.TheView.{view, invariant}
 use Rattle.erl_base.specs.contracts.list.List as C
 use Rattle.erl_base.specs.contracts.list.List.TheInside as I
 
+-- a list holds its items
 abbrev pub the_former : Former {0} → Former {0}
 the_former g = list g
 
+-- and weighs as a list of them
 abbrev pub the_weighed : {g : Former {0}} → Weighed g → Weighed (the_former g)
 the_weighed w = w_list w
 
 pub the_empty : List ⊥
 the_empty = []
 
+-- its items in their order
 abbrev pub the_items : (X : Type 0) → List X → List X
 the_items X d = d
 
