@@ -19,7 +19,7 @@ use Rattle.core_meaning.specs.EvaluationContext.{EvaluationContext, held, holdin
 use Rattle.core_meaning.specs.Evaluation.{eval}
 use Rattle.core_meaning.specs.CoreRun.{run_site}
 use Rattle.beam_table.specs.ValidModule.{is_key, keys_distinct}
-use Rattle.behaviour.specs.PlainModules.{PlainBody, number, atom, parameter, PlainFun, later_place, place_of, as_parameter, plain_body, with_key, plain_fun, and_also, plain_funs}
+use Rattle.behaviour.specs.PlainModules.{PlainBody, number, atom, parameter, PlainFun, later_place, parameter_place, as_parameter, plain_body, with_key, plain_fun, both_plain, plain_funs}
 use Rattle.behaviour.proofs.Keys.{and_true, or_false, same_key_is, same_key_itself, other_key, keys_differ, some_is}
 use Rattle.behaviour.proofs.PlainRuns.{given, Found}
 
@@ -34,7 +34,7 @@ IsPlain (and_def (def p f e) ds) (h ∷ hs) = (plain_fun f e ≡ Some h) × IsPl
 plain_and : (p : Place) (f : FunKey) (e : Expr) (ds : Defs) (hs : List PlainFun)
     → ((gs : List PlainFun) → plain_funs ds ≡ Some gs → IsPlain ds gs) →
     (o : Option PlainFun) (os : Option (List PlainFun)) → plain_fun f e ≡ o → plain_funs ds ≡ os
-    → and_also o os ≡ Some hs → IsPlain (and_def (def p f e) ds) hs
+    → both_plain o os ≡ Some hs → IsPlain (and_def (def p f e) ds) hs
 plain_and p f e ds hs ih None os a b q = absurd cc
 plain_and p f e ds hs ih (Some h) None a b q = absurd cc
 plain_and p f e ds hs ih (Some h) (Some gs) a b q =
@@ -83,24 +83,24 @@ fun_is f _ h q = absurd cc
 -- Parameters: the number of a variable, and what its binding holds.
 
 no_place_after : (x : Name) (b : Binder) (bs : List Binder) (g : Scope) (c : Bool) (o : Option ℕ) →
-    (place_of x bs ≡ None → binding (with_names (variable b.name (length g) ∷ g) (names_of bs)) x
+    (parameter_place x bs ≡ None → binding (with_names (variable b.name (length g) ∷ g) (names_of bs)) x
     ≡ binding (variable b.name (length g) ∷ g) x) →
-    same_name x b.name ≡ c → place_of x bs ≡ o → later_place c o ≡ None
+    same_name x b.name ≡ c → parameter_place x bs ≡ o → later_place c o ≡ None
     → binding (with_names g (names_of (b ∷ bs))) x ≡ binding g x
 no_place_after x b bs g c (Some j) ih s e z = absurd cc
 no_place_after x b bs g true None ih s e z = absurd cc
 no_place_after x b bs g false None ih s e z = ih e ∙ ap (λ d. if d then Some (length g) else binding g x) s
 
-no_place : (x : Name) (bs : List Binder) (g : Scope) → place_of x bs ≡ None
+no_place : (x : Name) (bs : List Binder) (g : Scope) → parameter_place x bs ≡ None
     → binding (with_names g (names_of bs)) x ≡ binding g x
 no_place x [] g q = refl
-no_place x (b ∷ bs) g q = no_place_after x b bs g (same_name x b.name) (place_of x bs)
+no_place x (b ∷ bs) g q = no_place_after x b bs g (same_name x b.name) (parameter_place x bs)
     (no_place x bs (variable b.name (length g) ∷ g)) refl refl q
 
 at_place_after : (x : Name) (b : Binder) (bs : List Binder) (g : Scope) (j : ℕ) (c : Bool) (o : Option ℕ) →
-    ((i : ℕ) → place_of x bs ≡ Some i → binding (with_names (variable b.name (length g) ∷ g) (names_of bs)) x
+    ((i : ℕ) → parameter_place x bs ≡ Some i → binding (with_names (variable b.name (length g) ∷ g) (names_of bs)) x
     ≡ Some (length (variable b.name (length g) ∷ g) + i)) →
-    same_name x b.name ≡ c → place_of x bs ≡ o → later_place c o ≡ Some j
+    same_name x b.name ≡ c → parameter_place x bs ≡ o → later_place c o ≡ Some j
     → binding (with_names g (names_of (b ∷ bs))) x ≡ Some (length g + j)
 at_place_after x b bs g j c (Some i) ih s e z = ih i e ∙ ap (λ n. Some n) (omega (arith, some_is (suc i) j z))
 at_place_after x b bs g j true None ih s e z =
@@ -108,22 +108,22 @@ at_place_after x b bs g j true None ih s e z =
     ∙ ap (λ n. Some n) (omega (arith, some_is 0 j z))
 at_place_after x b bs g j false None ih s e z = absurd cc
 
-at_place : (x : Name) (bs : List Binder) (g : Scope) (j : ℕ) → place_of x bs ≡ Some j
+at_place : (x : Name) (bs : List Binder) (g : Scope) (j : ℕ) → parameter_place x bs ≡ Some j
     → binding (with_names g (names_of bs)) x ≡ Some (length g + j)
 at_place x [] g j q = absurd cc
-at_place x (b ∷ bs) g j q = at_place_after x b bs g j (same_name x b.name) (place_of x bs)
+at_place x (b ∷ bs) g j q = at_place_after x b bs g j (same_name x b.name) (parameter_place x bs)
     (at_place x bs (variable b.name (length g) ∷ g)) refl refl q
 
 place_below_after : (x : Name) (b : Binder) (bs : List Binder) (j : ℕ) (c : Bool) (o : Option ℕ)
-    → ((i : ℕ) → place_of x bs ≡ Some i → i < length bs) →
-    place_of x bs ≡ o → later_place c o ≡ Some j → j < length (b ∷ bs)
+    → ((i : ℕ) → parameter_place x bs ≡ Some i → i < length bs) →
+    parameter_place x bs ≡ o → later_place c o ≡ Some j → j < length (b ∷ bs)
 place_below_after x b bs j c (Some i) ih e z = omega (arith, ih i e, some_is (suc i) j z)
 place_below_after x b bs j true None ih e z = omega (arith, some_is 0 j z)
 place_below_after x b bs j false None ih e z = absurd cc
 
-pub place_below : (x : Name) (bs : List Binder) (j : ℕ) → place_of x bs ≡ Some j → j < length bs
+pub place_below : (x : Name) (bs : List Binder) (j : ℕ) → parameter_place x bs ≡ Some j → j < length bs
 place_below x [] j q = absurd cc
-place_below x (b ∷ bs) j q = place_below_after x b bs j (same_name x b.name) (place_of x bs) (place_below x bs) refl q
+place_below x (b ∷ bs) j q = place_below_after x b bs j (same_name x b.name) (parameter_place x bs) (place_below x bs) refl q
 
 -- the bindings from number b on hold the arguments
 held_at : (b n : ℕ) (ms : List ℕ) (vs : Values) (j k : ℕ) (t : Term) → j < n → k ≡ b + j → slice_get vs j ≡ Some t
@@ -163,7 +163,7 @@ as_some (Some i) b j q p =
     place _ = i
 
 module _ (here : Invocation) (g : Scope) (bs : List Binder) (ms : List ℕ) (vs : Values) (k : ℕ) where
-  var_gives : (p : Place) (x : Name) (j : ℕ) (t : Term) → place_of x bs ≡ Some j → slice_get vs j ≡ Some t
+  var_gives : (p : Place) (x : Name) (j : ℕ) (t : Term) → parameter_place x bs ≡ Some j → slice_get vs j ≡ Some t
       → eval here (var p x) (at_body g bs ms vs k) ≡ single t
   unfolding eval
   var_gives p x j t e q =
@@ -171,7 +171,7 @@ module _ (here : Invocation) (g : Scope) (bs : List Binder) (ms : List ℕ) (vs 
       (value_held (at_body g bs ms vs k) x None (length g + j) (at_place x bs g j e)
       ∙ held_at (length g) (length bs) ms vs j (length g + j) t (place_below x bs j e) refl q)
 
-  var_body : (p : Place) (x : Name) (o : Option ℕ) (b : PlainBody) (t : Term) → place_of x bs ≡ o
+  var_body : (p : Place) (x : Name) (o : Option ℕ) (b : PlainBody) (t : Term) → parameter_place x bs ≡ o
       → as_parameter o ≡ Some b → given b vs ≡ Some t → eval here (var p x) (at_body g bs ms vs k) ≡ single t
   var_body p x None b t e a q = absurd cc
   var_body p x (Some j) b t e a q = var_gives p x j t e (ap (λ z. given z vs) (some_is (parameter j) b a) ∙ q)
@@ -184,7 +184,7 @@ module _ (here : Invocation) (g : Scope) (bs : List Binder) (ms : List ℕ) (vs 
   body_gives (literal p (T.atom c)) b t a q =
       ap (λ u. single u) (some_is (T.atom c) t (ap (λ d. given d vs) (some_is (atom c) b a) ∙ q))
   body_gives (literal p _) b t a q = absurd cc
-  body_gives (var p x) b t a q = var_body p x (place_of x bs) b t refl a q
+  body_gives (var p x) b t a q = var_body p x (parameter_place x bs) b t refl a q
   body_gives _ b t a q = absurd cc
 
 -- A definition, as a site.
@@ -264,7 +264,7 @@ get_below [] j l = absurd (omega (arith, l))
 get_below (v ∷ vs) zero l = (v, refl)
 get_below (v ∷ vs) (suc j) l = get_below vs j (omega (arith, l))
 
-place_given : (x : Name) (bs : List Binder) (vs : Values) (o : Option ℕ) (b : PlainBody) → place_of x bs ≡ o
+place_given : (x : Name) (bs : List Binder) (vs : Values) (o : Option ℕ) (b : PlainBody) → parameter_place x bs ≡ o
     → as_parameter o ≡ Some b → length vs ≡ length bs → (t : Term) × (given b vs ≡ Some t)
 place_given x bs vs None b e a l = absurd cc
 place_given x bs vs (Some j) b e a l =
@@ -276,7 +276,7 @@ body_given : (bs : List Binder) (e : Expr) (b : PlainBody) (vs : Values) → pla
 body_given bs (literal p (T.int z)) b vs a l = (T.int z, ap (λ c. given c vs) (sym (some_is (number z) b a)))
 body_given bs (literal p (T.atom c)) b vs a l = (T.atom c, ap (λ d. given d vs) (sym (some_is (atom c) b a)))
 body_given bs (literal p _) b vs a l = absurd cc
-body_given bs (var p x) b vs a l = place_given x bs vs (place_of x bs) b refl a l
+body_given bs (var p x) b vs a l = place_given x bs vs (parameter_place x bs) b refl a l
 body_given bs _ b vs a l = absurd cc
 
 pub found_given : (ds : Defs) (hs : List PlainFun) (f : FunKey) (i : ℕ) (h : PlainFun) (vs : Values) → IsPlain ds hs

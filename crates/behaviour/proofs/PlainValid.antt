@@ -10,7 +10,7 @@ use Rattle.beam_table.specs.OperandBounds.{label_ok}
 use Rattle.erl_base.specs.Lists.{among}
 use Rattle.beam_table.specs.ValidModule.{every, distinct, labels_in, all_labels, entries_of, fun_ok, is_key, keys_distinct}
 use Rattle.behaviour.specs.Called.{without, each_once, export_keys}
-use Rattle.behaviour.specs.PlainModules.{PlainBody, number, atom, parameter, PlainFun, plain_code, plain_asm, place_of, as_parameter, plain_body, plain_fun, body_fits, fun_fits, PlainAssemblyIsValid}
+use Rattle.behaviour.specs.PlainModules.{PlainBody, number, atom, parameter, PlainFun, plain_code, plain_asm, parameter_place, as_parameter, plain_body, plain_fun, body_fits, fun_fits, PlainAssemblyIsValid}
 use Rattle.behaviour.proofs.Keys.{and_true, or_false, some_is}
 use Rattle.behaviour.proofs.PlainMeaning.{IsPlain, plain_each, fun_is, place_below}
 
@@ -86,9 +86,9 @@ body_below : (params : List Binder) (e : Expr) (b : PlainBody) → plain_body pa
 body_below bs (literal p (T.int z)) b a = subst (λ c. IsBelow c (length bs)) (some_is (number z) b a) tt
 body_below bs (literal p (T.atom c)) b a = subst (λ d. IsBelow d (length bs)) (some_is (atom c) b a) tt
 body_below bs (literal p _) b a = absurd cc
-body_below bs (var p x) b a = go (place_of x bs) refl a
+body_below bs (var p x) b a = go (parameter_place x bs) refl a
   where
-    go : (o : Option ℕ) → place_of x bs ≡ o → as_parameter o ≡ Some b → IsBelow b (length bs)
+    go : (o : Option ℕ) → parameter_place x bs ≡ o → as_parameter o ≡ Some b → IsBelow b (length bs)
     go None e z = absurd cc
     go (Some j) e z = subst (λ c. IsBelow c (length bs)) (some_is (parameter j) b z) (place_below x bs j e)
 body_below bs _ b a = absurd cc

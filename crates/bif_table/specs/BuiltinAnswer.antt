@@ -1,13 +1,12 @@
 -- What a listed function of the module erlang answers: a value, or a class and a reason (Erlang/OTP 25, module erlang;
 -- integers have no limit here, and there are no floats).
 use Rattle.std.specs.Prelude.{ℕ, zero, suc, ◌+◌, ◌/◌, List, [], ◌∷◌, length, Bool, true, false, not, ◌&&◌, ◌||◌, eqb, Option, Some, None, if◌then◌else◌, ℤ, pos, negsuc, ◌+ℤ◌, ◌-ℤ◌, ◌*ℤ◌, neg_ℤ, nat_abs, int_div, int_rem, codes}
-use Rattle.std.specs.declared.cmp.Ordering.{Ordering}
-use Rattle.std.specs.declared.cmp.Ordering.TheVariants.{Less, Equal, Greater}
 use Rattle.erl_base.specs.Names.{Name}
 use Rattle.erl_term.specs.Term as T
 use Rattle.erl_term.specs.Term.{Term, Terms, none, more, Class}
 use Rattle.erl_term.specs.TermOrder.{compare, count, pair_count, same_term}
 use Rattle.erl_term.specs.Terms.{word, truth, tagged, value_at, is_there}
+use Rattle.erl_term.specs.WellFormed.{is_below}
 pub use Rattle.bif_table.specs.Builtins.{Bif, Add, Subtract, Multiply, Plus, Negate, Div, Rem, Band, Bor, Bxor, Bnot, Bsl, Bsr, Abs, Round, Trunc, Ceil, Floor, Equals, Exactly, Differs, ExactlyNot, Below, AtMost, Above, AtLeast, And, Or, Xor, Not, IsAtom, IsBinary, IsBitstring, IsBoolean, IsFloat, IsFunction, IsInteger, IsList, IsMap, IsNumber, IsPid, IsPort, IsReference, IsTuple, IsFunction2, IsRecord2, IsRecord3, Element, TupleSize, Size, ByteSize, BitSize, Length, Hd, Tl, MapSize, IsMapKey, MapGet, Self, Error1, Error2, Exit1, Throw1}
 pub use Rattle.bif_table.specs.Builtins.{lookup}
 pub use Rattle.bif_table.specs.Kinds.{truth_of, is_int, is_atom, is_bits, is_bytes, is_truth, is_fun, is_list, is_map, is_pid, is_port, is_reference, is_tuple, has_arity}
@@ -198,16 +197,10 @@ map_get k t = badmap t
 
 -- Comparisons.
 
--- whether the first of two comes before the second
-abbrev pub is_less : Ordering → Bool
-is_less Less = true
-is_less Equal = false
-is_less Greater = false
-
 -- in the order of terms
 unfoldable pub below : Term → Term → Bool
 unfolding compare
-below a b = is_less (compare a b)
+below a b = is_below (compare a b)
 
 -- Answers. A function has as many arguments as its row says.
 

@@ -8,10 +8,8 @@ use Rattle.core_form.specs.declared.tree.PatternForm.{PatternForm, fold-PatternF
 use Rattle.core_form.specs.declared.tree.Clause.{Clause, fold-Clause}
 use Rattle.core_form.specs.declared.tree.Def.{Def, fold-Def}
 use Rattle.core_form.specs.declared.tree.Expr.{Expr, fold-Expr}
-use Rattle.core_form.specs.declared.tree.KeyPattern.{KeyPattern, fold-KeyPattern}
 use Rattle.core_form.specs.declared.tree.MapPart.{MapPart, fold-MapPart}
 use Rattle.core_form.specs.declared.tree.Pattern.{Pattern, fold-Pattern}
-use Rattle.core_form.specs.declared.tree.SegPattern.{SegPattern, fold-SegPattern}
 use Rattle.core_form.specs.declared.tree.Segment.{Segment, fold-Segment}
 use Rattle.core_form.specs.declared.tree.ExprForm.TheOpen.{ExprForm-F, PatternForm-F, Clause-F, Def-F, Expr-F, KeyPattern-F, MapPart-F, Pattern-F, SegPattern-F, Segment-F}
 use Rattle.core_form.specs.declared.tree.ExprForm.TheOpen as form
@@ -185,18 +183,6 @@ pattern_view = fold-Pattern ExprAt PatternAt Plain.Clause Plain.Def Plain.Expr P
 -- the same without its place
 abbrev pub pattern_form_view : PatternForm → PatternAt
 pattern_form_view = fold-PatternForm ExprAt PatternAt Plain.Clause Plain.Def Plain.Expr Plain.KeyPattern Plain.MapPart
-    Plain.Pattern Plain.SegPattern Plain.Segment
-    form_step pattern_form_step clause_step def_step expr_step key_step part_step pattern_step seg_step segment_step
-
--- the plain part of a map pattern
-abbrev pub key_view : KeyPattern → Plain.KeyPattern
-key_view = fold-KeyPattern ExprAt PatternAt Plain.Clause Plain.Def Plain.Expr Plain.KeyPattern Plain.MapPart
-    Plain.Pattern Plain.SegPattern Plain.Segment
-    form_step pattern_form_step clause_step def_step expr_step key_step part_step pattern_step seg_step segment_step
-
--- the plain segment of a binary pattern
-abbrev pub seg_view : SegPattern → Plain.SegPattern
-seg_view = fold-SegPattern ExprAt PatternAt Plain.Clause Plain.Def Plain.Expr Plain.KeyPattern Plain.MapPart
     Plain.Pattern Plain.SegPattern Plain.Segment
     form_step pattern_form_step clause_step def_step expr_step key_step part_step pattern_step seg_step segment_step
 

@@ -11,7 +11,6 @@ use Rattle.kernel_parts.specs.declared.value.KSimple.{KSimple}
 use Rattle.kernel_parts.specs.declared.value.KSimple.TheVariants as S
 use Rattle.kernel_parts.specs.declared.pattern.KPat.{KPat, fold-KPat}
 use Rattle.kernel_parts.specs.declared.pattern.KSeg.{KSeg, fold-KSeg}
-use Rattle.kernel_parts.specs.declared.pattern.KKeyPat.{KKeyPat, fold-KKeyPat}
 use Rattle.kernel_parts.specs.declared.pattern.KPat.TheOpen.{KPat-F, KSeg-F, KKeyPat-F}
 use Rattle.kernel_parts.specs.declared.pattern.KPat.TheOpen as pat
 use Rattle.kernel_parts.specs.declared.shape.Shape.{Shape}
@@ -117,10 +116,6 @@ pat_view = fold-KPat Plain.Pattern Plain.KeyPattern Plain.Seg pat_step key_step 
 -- the plain segment of a binary pattern
 abbrev pub seg_view : KSeg → Plain.Seg
 seg_view = fold-KSeg Plain.Pattern Plain.KeyPattern Plain.Seg pat_step key_step seg_step
-
--- the plain part of a map pattern
-abbrev pub key_view : KKeyPat → Plain.KeyPattern
-key_view = fold-KKeyPat Plain.Pattern Plain.KeyPattern Plain.Seg pat_step key_step seg_step
 
 -- Expressions and trees.
 

@@ -7,7 +7,7 @@ use Rattle.erl_term.specs.Term.{Term}
 use Rattle.core_form.specs.declared.tree.Binder.{Binder}
 use Rattle.core_form.specs.Core.{Expr, literal, var, fun, Defs, no_def, and_def, def}
 use Rattle.beam_table.specs.Code.{Insn, AsmFun}
-use Rattle.behaviour.specs.PlainModules.{PlainBody, number, atom, parameter, PlainFun, later_place, place_of, as_parameter, plain_body, with_key, plain_fun, and_also, plain_funs, plain_code, plain_asm}
+use Rattle.behaviour.specs.PlainModules.{PlainBody, number, atom, parameter, PlainFun, later_place, parameter_place, as_parameter, plain_body, with_key, plain_fun, both_plain, plain_funs, plain_code, plain_asm}
 use Rattle.pass_line.specs.PlainModule.{is_plain_atom, is_bound, are_distinct, is_plain_literal, is_plain_body, is_plain_fun, are_plain, keys_of}
 use Rattle.pass_line.specs.PlainCode.{index_of, gives_parameter, gives_literal, gives_body, code, functions}
 use Rattle.pass_line.proofs.Names.{same_name-Decides, both}
@@ -46,20 +46,20 @@ not_true : (a : Bool) → not a ≡ true → a ≡ false
 not_true true h = absurd (true≢false (sym h))
 not_true false h = refl
 
-unbound : (x : Name) (xs : List Binder) → is_bound x xs ≡ false → place_of x xs ≡ None
+unbound : (x : Name) (xs : List Binder) → is_bound x xs ≡ false → parameter_place x xs ≡ None
 unbound x [] h = refl
 unbound x (y ∷ ys) h =
     let p : (same_name x y.name ≡ false) × (is_bound x ys ≡ false) = either (same_name x y.name) (is_bound x ys) h in
     ap₂ later_place p.0 (unbound x ys p.1)
 
 bound : (x : Name) (xs : List Binder) → are_distinct xs ≡ true → is_bound x xs ≡ true
-    → place_of x xs ≡ Some (index_of x xs)
+    → parameter_place x xs ≡ Some (index_of x xs)
 bound x [] d h = absurd (true≢false (sym h))
 bound x (y ∷ ys) d h = by (same_name x y.name) refl (bound x ys)
   where
     by : (b : Bool) → same_name x y.name ≡ b →
-        (are_distinct ys ≡ true → is_bound x ys ≡ true → place_of x ys ≡ Some (index_of x ys)) →
-        place_of x (y ∷ ys) ≡ Some (index_of x (y ∷ ys))
+        (are_distinct ys ≡ true → is_bound x ys ≡ true → parameter_place x ys ≡ Some (index_of x ys)) →
+        parameter_place x (y ∷ ys) ≡ Some (index_of x (y ∷ ys))
     by true e rest =
         let q : (not (is_bound y.name ys) ≡ true) × (are_distinct ys ≡ true) =
         both (not (is_bound y.name ys)) (are_distinct ys) d in
@@ -119,7 +119,7 @@ pub plain_funs-are_plain : (ds : Defs) → are_plain ds ≡ true → plain_funs 
 plain_funs-are_plain no_def h = refl
 plain_funs-are_plain (and_def (def p f e) ds) h =
     let a : (is_plain_fun f e ≡ true) × (are_plain ds ≡ true) = both (is_plain_fun f e) (are_plain ds) h in
-    ap₂ and_also (plain_funned f e a.0) (plain_funs-are_plain ds a.1)
+    ap₂ both_plain (plain_funned f e a.0) (plain_funs-are_plain ds a.1)
 
 pub keys-funs_of : (ds : Defs) → map (λ h. h.key) (funs_of ds) ≡ keys_of ds
 keys-funs_of no_def = refl

@@ -12,7 +12,7 @@ use Rattle.core_chars.specs.Escapes.{quoted_char}
 use Rattle.core_chars.specs.Quoted.{quoted_text}
 use Rattle.core_chars.proofs.Quoting.{behind, passed_over}
 use Rattle.term_text.specs.Atoms.{is_name_character, is_kept, is_plain_name, kept_words, quoted_character, quoted_characters, atom_text}
-use Rattle.term_read.specs.Lexemes.{is_blank, behind_blanks, blanks_skipped, run_of, word_front, unquoted, quoted_rest, no_fun, name_front}
+use Rattle.term_read.specs.Lexemes.{is_space, behind_blanks, blanks_skipped, run_of, word_front, unquoted, quoted_rest, no_fun, name_front}
 use Rattle.term_read.specs.Printed.{Ends}
 use Rattle.std.proofs.lemmas.Fmt.{hex_one_digit, hex_two_digits}
 use Rattle.std.specs.Fmt.{digit_glyph}
@@ -74,7 +74,7 @@ plain_read (c ∷ cs) r h e =
     let kept : is_kept (c ∷ cs)
     ≡ false = not_true (is_kept (c ∷ cs))
     (right_true (is_lower c && list_all is_name_character cs) (not (is_kept (c ∷ cs))) e) in
-    let no_blank : is_blank c ≡ false = grind (arith, nat_tests, small) in
+    let no_blank : is_space c ≡ false = grind (arith, nat_tests, small) in
     let no_comment : eqb c 37 ≡ false = grind (arith, nat_tests, small) in
     let no_quote : eqb c 39 ≡ false = grind (arith, nat_tests, small) in (
       ap (λ b. if b then blanks_skipped false (cs ++ r) else if eqb c 37 then blanks_skipped true (cs ++ r)

@@ -7,7 +7,7 @@ use Rattle.std.proofs.lemmas.Bool.Decides.{nat_tests}
 use Rattle.erl_term.proofs.Forms.{left_true, right_true, both_true}
 use Rattle.core_chars.specs.Characters.{is_digit, is_sign, first_is, value_from}
 use Rattle.term_text.specs.Decimal.{digits_on, decimal_on, integer_on}
-use Rattle.term_read.specs.Lexemes.{◌>>=◌, is_blank, behind_blanks, blanks_skipped, run_of, integer_of, with_rest, digits_front, integer_front, integer_at, below, number_at}
+use Rattle.term_read.specs.Lexemes.{◌>>=◌, is_space, behind_blanks, blanks_skipped, run_of, integer_of, with_rest, digits_front, integer_front, integer_at, below, number_at}
 use Rattle.term_read.specs.Printed.{Ends}
 use Rattle.erl_term.specs.Ranges.{is_within_128}
 
@@ -146,7 +146,7 @@ digits_solid : (cs : List ℕ) → first_is is_digit cs ≡ true → (behind_bla
 unfolding behind_blanks
 digits_solid [] h = absurd cc
 digits_solid (c ∷ cs) h =
-    let no_blank : is_blank c ≡ false = grind (arith, nat_tests, h) in
+    let no_blank : is_space c ≡ false = grind (arith, nat_tests, h) in
     let no_comment : eqb c 37 ≡ false = grind (arith, nat_tests, h) in
     let no_sign : is_sign c ≡ false = grind (arith, nat_tests, h) in (
       ap (λ b. if b then blanks_skipped false cs else if eqb c 37 then blanks_skipped true cs else c ∷ cs) no_blank

@@ -6,7 +6,7 @@ use Rattle.core_chars.specs.Characters.{is_lower, is_upper, is_digit, is_sign, f
 use Rattle.core_chars.specs.Quoted.{quoted_text}
 use Rattle.erl_base.specs.Names.{Name, same_name}
 use Rattle.term_text.specs.Atoms.{is_name_character}
-use Rattle.term_read.specs.Lexemes.{◌>>=◌, is_blank, blanks_skipped, behind_blanks, behind_mark, mark_at, run_of, word_front, unquoted, quoted_rest, no_fun, name_front, name_at, integer_of, with_rest, digits_front, integer_front, integer_at, below, number_at}
+use Rattle.term_read.specs.Lexemes.{◌>>=◌, is_space, blanks_skipped, behind_blanks, behind_mark, mark_at, run_of, word_front, unquoted, quoted_rest, no_fun, name_front, name_at, integer_of, with_rest, digits_front, integer_front, integer_at, below, number_at}
 use Rattle.term_read.specs.TermGrammar.{of_size, sized, part_at, number_in, extern_rest, fun_head, class_named, class_in}
 use Rattle.erl_term.specs.Term as T
 use Rattle.term_read.specs.declared.flat.FunHead.{FunHead}
@@ -17,7 +17,7 @@ skipped_shorter true [] = omega arith
 skipped_shorter false [] = omega arith
 skipped_shorter true (c ∷ cs) = let h : length (blanks_skipped (not (eqb c 10)) cs) ≤ length cs =
     skipped_shorter (not (eqb c 10)) cs in omega (arith, h)
-skipped_shorter false (c ∷ cs) = by (is_blank c) (eqb c 37) (skipped_shorter false cs) (skipped_shorter true cs)
+skipped_shorter false (c ∷ cs) = by (is_space c) (eqb c 37) (skipped_shorter false cs) (skipped_shorter true cs)
   where
     by : (b d : Bool) → length (blanks_skipped false cs) ≤ length cs → length (blanks_skipped true cs) ≤ length cs
         → length (if b then blanks_skipped false cs else if d then blanks_skipped true cs else c ∷ cs) ≤ length (c ∷ cs)

@@ -11,7 +11,7 @@ use Rattle.erl_term.proofs.Forms.{left_true, right_true}
 use Rattle.term_text.specs.Decimal.{decimal_on, integer_on}
 use Rattle.term_text.specs.Atoms.{is_name_character, atom_text}
 use Rattle.term_text.specs.TermText.{texts, term_on, rest_on, row_on, pairs_on, bits_on, class_text, printed}
-use Rattle.term_read.specs.Lexemes.{◌>>=◌, is_blank, behind_blanks, blanks_skipped, mark_at, word_front, name_at, name_front, number_at}
+use Rattle.term_read.specs.Lexemes.{◌>>=◌, is_space, behind_blanks, blanks_skipped, mark_at, word_front, name_at, name_front, number_at}
 use Rattle.term_read.specs.TermGrammar as G
 use Rattle.term_read.specs.TermGrammar.{Row, Items, ListEnd, PairOf, PartOf, Form, ReadsTerm, number_in, extern_rest, fun_head, class_named, class_in, bits_in, IsTermText}
 use Rattle.term_read.specs.declared.flat.FunHead.{FunHead}
@@ -332,7 +332,7 @@ class_there T.throw r = class_step (codes "throw") T.throw r
 
 -- Every term.
 
-solid : (c : ℕ) (cs : List ℕ) → is_blank c ≡ false → eqb c 37 ≡ false → behind_blanks (c ∷ cs) ≡ c ∷ cs
+solid : (c : ℕ) (cs : List ℕ) → is_space c ≡ false → eqb c 37 ≡ false → behind_blanks (c ∷ cs) ≡ c ∷ cs
 unfolding behind_blanks
 solid c cs h g = ap (λ b. if b then blanks_skipped false cs else if eqb c 37 then blanks_skipped true cs else c ∷ cs) h
     ∙ ap (λ b. if b then blanks_skipped true cs else c ∷ cs) g

@@ -13,15 +13,15 @@ None >>= f = None
 (Some x) >>= f = f x
 
 -- space, tab, LF, CR
-abbrev pub is_blank : ℕ → Bool
-is_blank c = c == 32 || c == 9 || c == 10 || c == 13
+abbrev pub is_space : ℕ → Bool
+is_space c = c == 32 || c == 9 || c == 10 || c == 13
 
 -- what is left behind blanks and comments; a comment goes from `%` to the end of its line
 abbrev pub blanks_skipped : (in_comment : Bool) → List ℕ → List ℕ
 blanks_skipped b [] = []
 blanks_skipped true (c ∷ cs) = blanks_skipped (not (c == 10)) cs
 blanks_skipped false (c ∷ cs) =
-    if is_blank c then blanks_skipped false cs else if c == 37 then blanks_skipped true cs else c ∷ cs
+    if is_space c then blanks_skipped false cs else if c == 37 then blanks_skipped true cs else c ∷ cs
 
 -- what is left behind blanks and comments
 unfoldable pub behind_blanks : List ℕ → List ℕ

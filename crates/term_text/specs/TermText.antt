@@ -34,30 +34,30 @@ pub record Texts : Type 0 where
   pub rest : List ℕ → List ℕ
 
 -- the texts of a term that is no list
-abbrev pub no_list : (List ℕ → List ℕ) → Texts
-no_list text = record { whole = text; rest = λ r. codes "|" ++ text (codes "]" ++ r) }
+abbrev pub plain_texts : (List ℕ → List ℕ) → Texts
+plain_texts text = record { whole = text; rest = λ r. codes "|" ++ text (codes "]" ++ r) }
 
 unfoldable mutual
   pub texts : Term → Texts
-  texts (int z) = no_list (integer_on z)
-  texts (atom a) = no_list (λ r. atom_text a ++ r)
+  texts (int z) = plain_texts (integer_on z)
+  texts (atom a) = plain_texts (λ r. atom_text a ++ r)
   texts nil = record { whole = λ r. codes "[]" ++ r; rest = λ r. codes "]" ++ r }
   texts (cons x y) = record {
     whole = λ r. codes "[" ++ (texts x).whole ((texts y).rest r);
     rest = λ r. codes "," ++ (texts x).whole ((texts y).rest r);
   }
-  texts (tuple ts) = no_list (λ r. codes "{" ++ row_on true ts (codes "}" ++ r))
-  texts (map ps) = no_list (λ r. codes "#{" ++ pairs_on true ps (codes "}" ++ r))
-  texts (bits bs) = no_list (λ r. codes "<<" ++ bits_on true bs (codes ">>" ++ r))
-  texts (fun m s a ts) = no_list
+  texts (tuple ts) = plain_texts (λ r. codes "{" ++ row_on true ts (codes "}" ++ r))
+  texts (map ps) = plain_texts (λ r. codes "#{" ++ pairs_on true ps (codes "}" ++ r))
+  texts (bits bs) = plain_texts (λ r. codes "<<" ++ bits_on true bs (codes ">>" ++ r))
+  texts (fun m s a ts) = plain_texts
       (λ r. codes "#Fun<" ++ (atom_text m ++ (codes "," ++ decimal_on s (codes "," ++ decimal_on a (codes ",["
       ++ row_on true ts (codes "]>" ++ r))))))
-  texts (extern m f a) = no_list
+  texts (extern m f a) = plain_texts
       (λ r. codes "fun " ++ (atom_text m ++ (codes ":" ++ (atom_text f ++ (codes "/" ++ decimal_on a r)))))
-  texts (pid n) = no_list (marked_on (codes "#Pid<") n)
-  texts (reference n) = no_list (marked_on (codes "#Ref<") n)
-  texts (port n) = no_list (marked_on (codes "#Port<") n)
-  texts (raw_trace c) = no_list (λ r. codes "#Trace<" ++ (class_text c ++ (codes ">" ++ r)))
+  texts (pid n) = plain_texts (marked_on (codes "#Pid<") n)
+  texts (reference n) = plain_texts (marked_on (codes "#Ref<") n)
+  texts (port n) = plain_texts (marked_on (codes "#Port<") n)
+  texts (raw_trace c) = plain_texts (λ r. codes "#Trace<" ++ (class_text c ++ (codes ">" ++ r)))
 
   -- with commas between, and before the first where there is another before it
   pub row_on : Bool → Terms → List ℕ → List ℕ
