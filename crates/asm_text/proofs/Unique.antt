@@ -16,7 +16,7 @@ use Rattle.term_text.specs.Decimal.{decimal_on}
 use Rattle.term_text.specs.TermText.{term_on, rest_on}
 use Rattle.term_text.proofs.Digits.{decimal_unique, integer_unique}
 use Rattle.beam_table.specs.ModuleForms.{key_term}
-use Rattle.asm_text.specs.AssemblyText.{insn_on, code_on, head_on, funs_on, printed, source_has_text, insn_has_text, fun_has_text, HasText, AssemblyText}
+use Rattle.asm_text.specs.AssemblyText.{insn_on, code_on, head_on, funs_on, module_text, source_has_text, insn_has_text, fun_has_text, HasText, AssemblyText}
 use Rattle.asm_text.proofs.Forms.{first_true, others_true}
 use Rattle.asm_text.proofs.Rows.{atom_text-plain, term_on-nil, term_on-cons, rest_on-nil, rest_on-cons, term_on-key, term_on-x, term_on-y, term_on-atom, term_on-integer, insn_on-move, insn_on-return, head_on-text, first_on-text}
 
@@ -276,8 +276,8 @@ funs_unique m (f ∷ fs) (g ∷ gs) o p q e =
 
 -- Modules.
 
-printed_unique : (a b : AsmModule) → HasText a → HasText b → printed a ≡ printed b → a ≡ b
-unfolding printed
+printed_unique : (a b : AsmModule) → HasText a → HasText b → module_text a ≡ module_text b → a ≡ b
+unfolding module_text
 printed_unique a b p q e =
     let names = name_unique a.name b.name 125 125 _ _ p.name q.name refl refl
     (behind (codes "{module,") _ _ _ _ (first_on-text a (funs_on a.name a.funs []))
@@ -297,10 +297,10 @@ printed_unique a b p q e =
 
 pub text_unique : (bytes : List ℕ) (a b : AsmModule) → AssemblyText bytes a → AssemblyText bytes b → a ≡ b
 text_unique bytes a b p q =
-    printed_unique a b p.has_text q.has_text (encodes_same (printed a) (printed b) (sym p.spelled ∙ q.spelled))
+    printed_unique a b p.has_text q.has_text (encodes_same (module_text a) (module_text b) (sym p.spelled ∙ q.spelled))
 
 -- a text that is printed is that of no other module
-pub of_no_other : (text : List ℕ) (a b : AsmModule) → HasText a → text ≡ printed a
+pub of_no_other : (text : List ℕ) (a b : AsmModule) → HasText a → text ≡ module_text a
     → AssemblyText (encode_utf8_all text) b → b ≡ a
 of_no_other text a b p e q =
-    printed_unique b a q.has_text p (encodes_same (printed b) (printed a) (sym q.spelled ∙ ap encode_utf8_all e))
+    printed_unique b a q.has_text p (encodes_same (module_text b) (module_text a) (sym q.spelled ∙ ap encode_utf8_all e))

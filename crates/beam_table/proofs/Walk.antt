@@ -6,10 +6,10 @@ use Rattle.erl_term.specs.Segments.{Shape, segment_value}
 use Rattle.erl_term.specs.Term.{Term, Pairs, Class}
 use Rattle.erl_term.specs.Terms.{terms, word, tagged}
 use Rattle.bif_table.specs.Builtins.{lookup, Bif}
-use Rattle.bif_table.specs.BuiltinAnswer.{Answer, value, raised, answer}
+use Rattle.bif_table.specs.BuiltinAnswer.{Answer, value, raised, answer, badarg}
 use Rattle.world_model.specs.World as W
 use Rattle.world_model.specs.Receive.{Timeout, now, in', wrong, new_or}
-use Rattle.world_model.specs.Requests.{badarg, is_send}
+use Rattle.world_model.specs.Requests.{is_send}
 use Rattle.world_model.specs.Run.{Entry, Outcome}
 use Rattle.world_model.specs.World.{taken, Request, Reply, Happening, Message, Delay, forever, millis}
 use Rattle.step_machine.specs.Frames.{MatchContext, is_tag, rest_of}

@@ -5,9 +5,9 @@ use Rattle.erl_term.specs.Term as T
 use Rattle.erl_term.specs.Term.{Term, none, more}
 use Rattle.erl_term.specs.Terms.{terms, listed, tagged, list_of}
 use Rattle.bif_table.specs.Builtins.{lookup, raises_always}
-use Rattle.bif_table.specs.BuiltinAnswer.{Answer, value, raised, answer}
+use Rattle.bif_table.specs.BuiltinAnswer.{Answer, value, raised, answer, badarg}
 use Rattle.world_model.specs.World as W
-use Rattle.world_model.specs.Requests.{badarg, is_send}
+use Rattle.world_model.specs.Requests.{is_send}
 use Rattle.world_model.specs.World.{Reply}
 use Rattle.step_machine.specs.Steps.{goes, notes, entered}
 use Rattle.beam_table.specs.Code.{Reg, x_reg, Source, reg, Extern, AsmFun, AsmModule}

@@ -6,7 +6,7 @@ use Rattle.erl_term.specs.Term.{Term}
 use Rattle.erl_term.specs.TermOrder.{same_term}
 use Rattle.erl_term.specs.Terms.{Values, terms, listed, word, only, value_at}
 use Rattle.erl_term.specs.Segments.{Shape, taken_size, segment_value}
-use Rattle.bif_table.specs.BuiltinAnswer.{Answer, value, raised, answer}
+use Rattle.bif_table.specs.BuiltinAnswer.{Answer, value, raised, answer, badarg}
 use Rattle.bif_table.specs.Builtins.{arity_of, is_guard, is_collecting}
 use Rattle.world_model.specs.World as W
 use Rattle.world_model.specs.World.{Reply, Message, Delay, forever, millis}
@@ -16,7 +16,7 @@ use Rattle.world_model.specs.MapUpdate.{put_all}
 use Rattle.world_model.specs.Receive.{Timeout, now, in', wrong, timeout_of, without, new_or}
 use Rattle.world_model.specs.References.{Standing, after_note, standing, save_place}
 use Rattle.world_model.specs.RemoteCalls.{takes, call_terms, apply_term, raise_again}
-use Rattle.world_model.specs.Requests.{badarg, send_to}
+use Rattle.world_model.specs.Requests.{send_to}
 use Rattle.step_machine.specs.Bodies.{Here, calling, callees}
 use Rattle.step_machine.specs.Frames.{MatchContext, moved, rest_of}
 use Rattle.ssa_form.specs.Ssa as Ssa

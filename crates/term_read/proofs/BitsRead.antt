@@ -9,7 +9,7 @@ use Rattle.term_text.specs.Decimal.{decimal_on}
 use Rattle.term_text.specs.TermText.{bits_on}
 use Rattle.term_read.specs.Lexemes.{◌>>=◌, behind_blanks, mark_at}
 use Rattle.term_read.specs.TermGrammar as G
-use Rattle.term_read.specs.TermGrammar.{Row, Items, PartOf, of_size, sized, part_at, whole_before_last, bits_in}
+use Rattle.term_read.specs.TermGrammar.{Row, Items, PartOf, of_size, part_sized, part_at, whole_before_last, bits_in}
 use Rattle.term_read.specs.declared.flat.Part.{Part}
 use Rattle.term_read.specs.Printed.{Ends}
 use Rattle.term_read.proofs.NumbersRead.{number_read}
@@ -84,19 +84,19 @@ abbrev part_of : ℕ → ℕ → Part
 part_of n k = record { number = n; size = k }
 
 abbrev then_sized : ℕ × List ℕ → Option (Part × List ℕ)
-then_sized n = sized n (mark_at (codes ":") n.1)
+then_sized n = part_sized n (mark_at (codes ":") n.1)
 
 byte_there : (n : ℕ) (r : List ℕ) → n < 256 → Ends r → mark_at (codes ":") r ≡ None
     → part_at (decimal_on n r) ≡ Some (whole_part n, r)
 unfolding part_at
-byte_there n r l h e = ap (λ x. x >>= then_sized) (number_read 256 n r h l (lit≤ tt)) ∙ ap (sized (n, r)) e
+byte_there n r l h e = ap (λ x. x >>= then_sized) (number_read 256 n r h l (lit≤ tt)) ∙ ap (part_sized (n, r)) e
 
 part_there : (n k : ℕ) (r : List ℕ) → n < 2 ^ k → 0 < k → k < 8 → n < 256
     → part_at (decimal_on n (58 ∷ decimal_on k (62 ∷ r))) ≡ Some (part_of n k, 62 ∷ r)
 unfolding part_at
 part_there n k r l p q m =
     ap (λ x. x >>= then_sized) (number_read 256 n (58 ∷ decimal_on k (62 ∷ r)) refl m (lit≤ tt))
-    ∙ ap (sized (n, 58 ∷ decimal_on k (62 ∷ r))) (colon_there (decimal_on k (62 ∷ r)))
+    ∙ ap (part_sized (n, 58 ∷ decimal_on k (62 ∷ r))) (colon_there (decimal_on k (62 ∷ r)))
     ∙ ap (of_size n) (number_read 8 k (62 ∷ r) refl q (lit≤ tt))
     ∙ ap (λ b. if b then Some given else None)
     (both_true (leb 1 k) (ltb n (2 ^ k)) (le-leb 1 k (omega (arith, p))) (lt-ltb n (2 ^ k) l))

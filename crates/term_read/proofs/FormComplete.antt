@@ -12,7 +12,7 @@ use Rattle.erl_term.specs.BitString.{byte_bits}
 use Rattle.term_text.specs.Atoms.{is_name_character}
 use Rattle.term_read.specs.Lexemes.{◌>>=◌, behind_blanks, behind_mark, mark_at, word_front, run_of, quoted_rest, no_fun, name_front, integer_front, integer_at, integer_of, with_rest, digits_front, below, number_at}
 use Rattle.term_read.specs.TermGrammar as G
-use Rattle.term_read.specs.TermGrammar.{Row, Items, ListEnd, PairOf, PartOf, Form, sized, part_at, whole_before_last, bits_in, number_in, extern_rest, fun_head, class_in, code_point, string_fits, is_byte, ReadsTerm}
+use Rattle.term_read.specs.TermGrammar.{Row, Items, ListEnd, PairOf, PartOf, Form, part_sized, part_at, whole_before_last, bits_in, number_in, extern_rest, fun_head, class_in, code_point, string_fits, is_byte, ReadsTerm}
 use Rattle.term_read.specs.Reading.{items_of, row_of, list_by, tuple_by, pair_by, map_by, marked_by, trace_by, identifier_by, hash_by, part_row, byte_text, bits_by, angle_by, string_by, of_word, word_by, quoted_by, integer_by, leaf_by, form_by, read_by}
 use Rattle.term_read.specs.declared.flat.Part.{Part}
 use Rattle.term_read.proofs.ItemRows.{no_items}
@@ -43,7 +43,7 @@ pub angles_apart : Apart part_at (codes ">>")
 unfolding part_at number_at integer_at digits_front
 angles_apart = record {
   none = λ cs ds e. ap
-      (λ front. integer_front front >>= below 256 >>= λ n. sized n (mark_at (codes ":") n.1))
+      (λ front. integer_front front >>= below 256 >>= λ n. part_sized n (mark_at (codes ":") n.1))
       (mark_taken (codes ">>") cs ds e);
 }
 
@@ -61,7 +61,7 @@ quote_no_row cs es e =
     (items_of part_at cs >>= λ xs. mark_at (codes ">>") xs.1 >>= λ ds. Some (xs.0, ds))
     (ap (behind_mark (codes ">>")) e)
     ∙ ap (λ r. r >>= λ xs. mark_at (codes ">>") xs.1 >>= λ ds. Some (xs.0, ds))
-    (no_items part_at cs (ap (λ front. integer_front front >>= below 256 >>= λ n. sized n (mark_at (codes ":") n.1)) e))
+    (no_items part_at cs (ap (λ front. integer_front front >>= below 256 >>= λ n. part_sized n (mark_at (codes ":") n.1)) e))
 
 -- What is given of what was read.
 

@@ -7,7 +7,7 @@ use Rattle.core_chars.specs.Quoted.{quoted_text}
 use Rattle.erl_base.specs.Names.{Name, same_name}
 use Rattle.term_text.specs.Atoms.{is_name_character}
 use Rattle.term_read.specs.Lexemes.{◌>>=◌, is_space, blanks_skipped, behind_blanks, behind_mark, mark_at, run_of, word_front, unquoted, quoted_rest, no_fun, name_front, name_at, integer_of, with_rest, digits_front, integer_front, integer_at, below, number_at}
-use Rattle.term_read.specs.TermGrammar.{of_size, sized, part_at, number_in, extern_rest, fun_head, class_named, class_in}
+use Rattle.term_read.specs.TermGrammar.{of_size, part_sized, part_at, number_in, extern_rest, fun_head, class_named, class_in}
 use Rattle.erl_term.specs.Term as T
 use Rattle.term_read.specs.declared.flat.FunHead.{FunHead}
 use Rattle.term_read.specs.declared.flat.Part.{Part}
@@ -170,7 +170,7 @@ number_shorter limit cs ds n e =
 pub part_shorter : Leaves part_at
 unfolding part_at
 part_shorter cs ds p e =
-    let x = bound (number_at 256 cs) (λ n. sized n (mark_at (codes ":") n.1)) (p, ds) e in
+    let x = bound (number_at 256 cs) (λ n. part_sized n (mark_at (codes ":") n.1)) (p, ds) e in
     let h : length (x.0).1 < length cs = number_shorter 256 cs (x.0).1 (x.0).0 x.1 in
     by x.0 (mark_at (codes ":") (x.0).1) refl x.2 h
   where
@@ -181,7 +181,7 @@ part_shorter cs ds p e =
         let same = chosen (leb 1 k.0 && ltb n (2 ^ k.0)) (record { number = n; size = k.0 }, k.1) (p, ds) e in
         subst (λ fs. length fs < length es) (ap (λ (y : Part × List ℕ). y.1) same.1) (number_shorter 8 es k.1 k.0 f)
 
-    by : (n : ℕ × List ℕ) (r : Option (List ℕ)) → mark_at (codes ":") n.1 ≡ r → sized n r ≡ Some (p, ds)
+    by : (n : ℕ × List ℕ) (r : Option (List ℕ)) → mark_at (codes ":") n.1 ≡ r → part_sized n r ≡ Some (p, ds)
         → length n.1 < length cs → length ds < length cs
     by n None f e h = let g : n.1 ≡ ds =
         rest_same (record { number = n.0; size = 8 }, n.1) (p, ds) e in omega (arith, ap length g, h)

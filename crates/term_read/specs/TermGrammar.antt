@@ -43,13 +43,13 @@ of_size n (Some size) = if nat_le 1 size.0
     && nat_lt n (2 ^ size.0) then Some (record { number = n; size = size.0 }, size.1) else None
 
 -- a part of a binary with its size, which is 8 where none is written
-abbrev pub sized : ℕ × List ℕ → Option (List ℕ) → Option (Part × List ℕ)
-sized n None = Some (record { number = n.0; size = 8 }, n.1)
-sized n (Some cs) = of_size n.0 (number_at 8 cs)
+abbrev pub part_sized : ℕ × List ℕ → Option (List ℕ) → Option (Part × List ℕ)
+part_sized n None = Some (record { number = n.0; size = 8 }, n.1)
+part_sized n (Some cs) = of_size n.0 (number_at 8 cs)
 
 -- a part of a binary: its number and its size
 unfoldable pub part_at : List ℕ → Option (Part × List ℕ)
-part_at cs = number_at 256 cs >>= λ n. sized n (mark_at (codes ":") n.1)
+part_at cs = number_at 256 cs >>= λ n. part_sized n (mark_at (codes ":") n.1)
 
 -- the same, as a relation
 abbrev pub PartOf : List ℕ → Part → List ℕ → Type 0

@@ -5,9 +5,9 @@ use Rattle.erl_base.specs.Names.{Name, same_name}
 use Rattle.erl_term.specs.Term as T
 use Rattle.erl_term.specs.Term.{Term, none, more}
 use Rattle.erl_term.specs.Terms.{Values, listed, list_of, tagged}
-use Rattle.bif_table.specs.BuiltinAnswer.{lookup, answer}
+use Rattle.bif_table.specs.BuiltinAnswer.{lookup, answer, badarg}
 use Rattle.world_model.specs.Run.{M, fail}
-use Rattle.world_model.specs.Requests.{badarg, call_out, answers, is_send, send_or_call}
+use Rattle.world_model.specs.Requests.{call_out, answers, is_send, send_or_call}
 
 -- a call of the module erlang, in a process with this pid: listed functions are answered, sends are requests, and so is
 -- everything else

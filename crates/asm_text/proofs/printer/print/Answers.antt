@@ -1,16 +1,16 @@
 use Rattle.std.proofs.Common.{◌≡◌, [], ◌∷◌, ◌++◌, ◌∙◌, ap, ◌+◌, drop, arith}
 use Rattle.std.proofs.lemmas.Grind.{common_steps}
 use Rattle.beam_table.specs.View.{module_view}
-use Rattle.asm_text.specs.AssemblyText.{printed}
+use Rattle.asm_text.specs.AssemblyText.{module_text}
 use Rattle.asm_text.proofs.Unique.{of_no_other}
 use Rattle.asm_text.proofs.Forms.{no_function, next_function, other_functions, function_added}
 use Rattle.asm_text.proofs.printer.print.Goals as goal
 
 pub loop-function-init : goal.loop-function-init
-unfolding printed
+unfolding module_text
 loop-function-init c = record {
   has_text = c.requires.functions;
-  added = c.in_ok-put_first.ensures _ ∙ ap (λ x. x ++ printed (module_view c.args.a.now)) c.new-out.ensures;
+  added = c.in_ok-put_first.ensures _ ∙ ap (λ x. x ++ module_text (module_view c.args.a.now)) c.new-out.ensures;
 }
 
 pub put_code-requires : goal.put_code-requires
