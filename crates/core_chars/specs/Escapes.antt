@@ -12,9 +12,8 @@ abbrev pub letter_escape : ℕ → Option ℕ
 letter_escape c =
     if c == 98 then Some 8 else if c == 100 then Some 127 else if c == 101 then Some 27 else if c == 102 then Some 12
     else if c == 110 then Some 10 else if c == 114 then Some 13 else if c == 115 then Some 32
-    else if c == 116 then Some 9
-    else if c == 118 then Some 11 else if c == 34 then Some 34 else if c == 39 then Some 39
-    else if c == 92 then Some 92 else None
+    else if c == 116 then Some 9 else if c == 118 then Some 11 else if c == 34 then Some 34
+    else if c == 39 then Some 39 else if c == 92 then Some 92 else None
 
 -- a code that is written in digits; one that is no Unicode scalar value is no escape
 abbrev pub code_escape : (code size : ℕ) → Option (ℕ × ℕ)
@@ -22,8 +21,8 @@ code_escape code size = if scalar code then Some (code, size) else None
 
 -- one to three octal digits
 abbrev pub octal_escape : List ℕ → Option (ℕ × ℕ)
-octal_escape cs = let digits =
-    take_while is_octal (take 3 cs) in code_escape (value_from 8 0 digits) (1 + length digits)
+octal_escape cs =
+    let digits = take_while is_octal (take 3 cs) in code_escape (value_from 8 0 digits) (1 + length digits)
 
 -- behind `\x`: two hexadecimal digits
 abbrev pub short_hex_escape : List ℕ → Option (ℕ × ℕ)

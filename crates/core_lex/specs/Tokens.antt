@@ -36,18 +36,16 @@ abbrev pub words : List (List ℕ × Words.Word)
 words =
     (codes "after", W.After) ∷ (codes "apply", W.Apply) ∷ (codes "attributes", W.Attributes) ∷ (codes "call", W.Call)
     ∷ (codes "case", W.Case) ∷ (codes "catch", W.Catch) ∷ (codes "do", W.Do) ∷ (codes "end", W.End)
-    ∷ (codes "fun", W.Fun)
-    ∷ (codes "in", W.In) ∷ (codes "let", W.Let) ∷ (codes "letrec", W.Letrec) ∷ (codes "module", W.Module)
-    ∷ (codes "of", W.Of)
-    ∷ (codes "primop", W.Primop) ∷ (codes "receive", W.Receive) ∷ (codes "try", W.Try) ∷ (codes "when", W.When) ∷ []
+    ∷ (codes "fun", W.Fun) ∷ (codes "in", W.In) ∷ (codes "let", W.Let) ∷ (codes "letrec", W.Letrec)
+    ∷ (codes "module", W.Module) ∷ (codes "of", W.Of) ∷ (codes "primop", W.Primop) ∷ (codes "receive", W.Receive)
+    ∷ (codes "try", W.Try) ∷ (codes "when", W.When) ∷ []
 
 -- the symbols of two characters
 abbrev pub long_symbols : List (List ℕ × Symbols.Symbol)
 long_symbols =
     (codes "->", S.Arrow) ∷ (codes "-|", S.AnnotationBar) ∷ (codes "=>", S.Association)
-    ∷ (codes ":=", S.ExactAssociation)
-    ∷ (codes "#{", S.OpenBinary) ∷ (codes "}#", S.CloseBinary) ∷ (codes "#<", S.OpenSegment) ∷ (codes "~{", S.OpenMap)
-    ∷ (codes "}~", S.CloseMap) ∷ []
+    ∷ (codes ":=", S.ExactAssociation) ∷ (codes "#{", S.OpenBinary) ∷ (codes "}#", S.CloseBinary)
+    ∷ (codes "#<", S.OpenSegment) ∷ (codes "~{", S.OpenMap) ∷ (codes "}~", S.CloseMap) ∷ []
 
 -- the symbols of one character
 abbrev pub short_symbols : List (List ℕ × Symbols.Symbol)

@@ -81,8 +81,9 @@ with_rest (Some x) cs = Some (x, cs)
 -- an integer of decimal digits, and what follows them
 unfoldable pub digits_front : (minus : Bool) → List ℕ → Option (ℤ × List ℕ)
 digits_front minus cs =
-    if first_is is_digit cs then with_rest (integer_of minus (value_from 10 0 (run_of is_digit cs).0))
-    (run_of is_digit cs).1 else None
+    if first_is is_digit cs
+    then with_rest (integer_of minus (value_from 10 0 (run_of is_digit cs).0)) (run_of is_digit cs).1
+    else None
 
 -- an integer: a sign or none directly before digits
 abbrev pub integer_front : List ℕ → Option (ℤ × List ℕ)

@@ -111,14 +111,13 @@ hash_by p cs = choice (behind_mark (codes "{") cs) (map_by p)
 
 -- the bits of a binary that is written as a row of parts
 unfoldable pub part_row : List ℕ → Option (Term × List ℕ)
-part_row cs = row_of part_at (codes ">>") cs >>= λ ps. if whole_before_last ps.0 then Some (T.bits (bits_in ps.0), ps.1)
-    else None
+part_row cs = row_of part_at (codes ">>") cs >>= λ ps.
+    if whole_before_last ps.0 then Some (T.bits (bits_in ps.0), ps.1) else None
 
 -- the bits of a binary that is written as a string of bytes
 unfoldable pub byte_text : List ℕ → Option (Term × List ℕ)
-byte_text cs = quoted_rest 34 cs
-    >>= λ s. if list_all is_byte s.0 then (mark_at (codes ">>") s.1 >>= λ ds. Some (T.bits (byte_bits s.0), ds))
-    else None
+byte_text cs = quoted_rest 34 cs >>= λ s.
+    if list_all is_byte s.0 then (mark_at (codes ">>") s.1 >>= λ ds. Some (T.bits (byte_bits s.0), ds)) else None
 
 -- behind `<<`
 unfoldable pub bits_by : List ℕ → Option (Term × List ℕ)
@@ -130,8 +129,8 @@ angle_by cs = behind_mark (codes "<") cs >>= bits_by
 
 -- the rest of a string: the list of its code points
 unfoldable pub string_by : ℕ → List ℕ → Option (Term × List ℕ)
-string_by d cs = quoted_rest 34 cs >>= λ s. if string_fits d s.0 then Some (list_of (map code_point s.0) T.nil, s.1)
-    else None
+string_by d cs = quoted_rest 34 cs >>= λ s.
+    if string_fits d s.0 then Some (list_of (map code_point s.0) T.nil, s.1) else None
 
 -- an atom, or an external fun behind the word `fun`
 abbrev pub of_word : Name × List ℕ → Option (Term × List ℕ)

@@ -39,8 +39,8 @@ pub data PairOf (R : List ℕ → Term → List ℕ → Type 0) : List ℕ → T
 -- a byte, or `v:k` for 1 to 7 bits that hold v
 abbrev pub of_size : ℕ → Option (ℕ × List ℕ) → Option (Part × List ℕ)
 of_size n None = None
-of_size n (Some size) = if nat_le 1 size.0
-    && nat_lt n (2 ^ size.0) then Some (record { number = n; size = size.0 }, size.1) else None
+of_size n (Some size) =
+    if nat_le 1 size.0 && nat_lt n (2 ^ size.0) then Some (record { number = n; size = size.0 }, size.1) else None
 
 -- a part of a binary with its size, which is 8 where none is written
 abbrev pub part_sized : ℕ × List ℕ → Option (List ℕ) → Option (Part × List ℕ)
@@ -81,8 +81,8 @@ extern_rest cs =
 -- module, site and arity of a local fun, up to the bracket before its captured terms
 unfoldable pub fun_head : List ℕ → Option (FunHead × List ℕ)
 fun_head cs =
-    name_at cs >>= λ m. mark_at (codes ",") m.1 >>= λ ds. number_at (2 ^ 32) ds
-    >>= λ s. mark_at (codes ",") s.1 >>= λ es.
+    name_at cs >>= λ m. mark_at (codes ",") m.1 >>= λ ds.
+    number_at (2 ^ 32) ds >>= λ s. mark_at (codes ",") s.1 >>= λ es.
     number_at (2 ^ 32) es >>= λ n. mark_at (codes ",") n.1 >>= λ fs. mark_at (codes "[") fs >>= λ gs.
     Some (record { home = m.0; site = s.0; arity = n.0 }, gs)
 
@@ -94,8 +94,8 @@ class_named a =
 
 -- the class of a raw trace and `>`
 unfoldable pub class_in : List ℕ → Option (Class × List ℕ)
-class_in cs = word_front (behind_blanks cs) >>= λ w. class_named w.0 >>= λ c. mark_at (codes ">") w.1
-    >>= λ ds. Some (c, ds)
+class_in cs =
+    word_front (behind_blanks cs) >>= λ w. class_named w.0 >>= λ c. mark_at (codes ">") w.1 >>= λ ds. Some (c, ds)
 
 -- Terms.
 
