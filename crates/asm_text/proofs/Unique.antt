@@ -303,4 +303,5 @@ text_unique bytes a b p q =
 pub of_no_other : (text : List ℕ) (a b : AsmModule) → HasText a → text ≡ module_text a
     → AssemblyText (encode_utf8_all text) b → b ≡ a
 of_no_other text a b p e q =
-    printed_unique b a q.has_text p (encodes_same (module_text b) (module_text a) (sym q.spelled ∙ ap encode_utf8_all e))
+    printed_unique b a q.has_text p
+    (encodes_same (module_text b) (module_text a) (sym q.spelled ∙ ap encode_utf8_all e))

@@ -123,7 +123,8 @@ place_below_after x b bs j false None ih e z = absurd cc
 
 pub place_below : (x : Name) (bs : List Binder) (j : ℕ) → parameter_place x bs ≡ Some j → j < length bs
 place_below x [] j q = absurd cc
-place_below x (b ∷ bs) j q = place_below_after x b bs j (same_name x b.name) (parameter_place x bs) (place_below x bs) refl q
+place_below x (b ∷ bs) j q =
+    place_below_after x b bs j (same_name x b.name) (parameter_place x bs) (place_below x bs) refl q
 
 -- the bindings from number b on hold the arguments
 held_at : (b n : ℕ) (ms : List ℕ) (vs : Values) (j k : ℕ) (t : Term) → j < n → k ≡ b + j → slice_get vs j ≡ Some t

@@ -1,8 +1,8 @@
 //! Files and sinks with counts of their faults, and whole reads and writes over them.
 //!
 //! `load_all` reads a file in pieces of 4,096 bytes and gives the whole of it. `store_all` creates a file and appends
-//! such pieces; where that fails, the store has counted a fault, and the file holds a prefix, or what it held before, or
-//! is not there.
+//! such pieces; where that fails, the store has counted a fault, and the file holds a prefix, or what it held before,
+//! or is not there.
 //!
 //! Files are known by their names, and what a store or a sink tells of its contents is what contracts speak of. The
 //! objects in memory tell everything; those of the system tell nothing and only count their faults: they are trusted

@@ -61,7 +61,8 @@ quote_no_row cs es e =
     (items_of part_at cs >>= λ xs. mark_at (codes ">>") xs.1 >>= λ ds. Some (xs.0, ds))
     (ap (behind_mark (codes ">>")) e)
     ∙ ap (λ r. r >>= λ xs. mark_at (codes ">>") xs.1 >>= λ ds. Some (xs.0, ds))
-    (no_items part_at cs (ap (λ front. integer_front front >>= below 256 >>= λ n. part_sized n (mark_at (codes ":") n.1)) e))
+    (no_items part_at cs (ap
+    (λ front. integer_front front >>= below 256 >>= λ n. part_sized n (mark_at (codes ":") n.1)) e))
 
 -- What is given of what was read.
 
