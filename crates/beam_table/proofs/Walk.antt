@@ -5,7 +5,7 @@ use Rattle.erl_term.specs.Term as T
 use Rattle.erl_term.specs.Segments.{Shape, segment_value}
 use Rattle.erl_term.specs.Term.{Term, Pairs, Class}
 use Rattle.erl_term.specs.Terms.{terms, word, tagged}
-use Rattle.bif_table.specs.Builtins.{lookup, Bif}
+use Rattle.bif_table.specs.Builtins.{lookup, never_returns, Bif}
 use Rattle.bif_table.specs.BuiltinAnswer.{Answer, value, raised, answer, badarg}
 use Rattle.world_model.specs.World as W
 use Rattle.world_model.specs.Receive.{Timeout, now, in', wrong, new_or}
@@ -16,7 +16,7 @@ use Rattle.step_machine.specs.Frames.{MatchContext, is_tag, rest_of}
 use Rattle.step_machine.specs.Steps.{happened, entered, examined, sub_binary, goes, ends, bad, notes, asks}
 use Rattle.beam_table.specs.Code
 use Rattle.beam_table.specs.Binaries.{shape, number_shape, do_get_integer, if_context, if_position, context_in, write_sub, read_segments, or_no_match, starts, takes, takes_segment, creates}
-use Rattle.beam_table.specs.Calls.{suspended, never_returns, frame_unless, enters, function_at, do_call, do_call_only, replied, calls_out, sent, sends, sends_or_calls, answered, erlang_answers, answers_call, call_any, returns, do_call_ext, do_call_ext_only, do_send, do_make_fun, enters_fun, applies, do_call_fun, calls_named, do_apply}
+use Rattle.beam_table.specs.Calls.{suspended, frame_unless, enters, function_at, do_call, do_call_only, replied, calls_out, sent, sends, sends_or_calls, answered, erlang_answers, answers_call, call_any, returns, do_call_ext, do_call_ext_only, do_send, do_make_fun, enters_fun, applies, do_call_fun, calls_named, do_apply}
 use Rattle.bif_table.specs.TermTests.{Comparison}
 use Rattle.beam_table.specs.Code.{Reg, x_reg, y_reg, Source, reg, Extern, Flags, Segment, Insn, label, func_info, move, swap, init_yregs, allocate, allocate_heap, deallocate, trim, test_heap, return, put_list, put_tuple2, make_fun3, put_map_assoc, put_map_exact, get_list, get_hd, get_tl, get_tuple_element, get_map_elements, has_map_fields, jump, test, compares, test_arity, is_tagged_tuple, select_val, select_tuple_arity, bif, gc_bif, call, call_only, call_last, call_ext, call_ext_only, call_ext_last, call_fun, apply, apply_last, send, build_stacktrace, raise, badmatch, case_end, try_case_end, if_end, try, catch, try_end, try_case, catch_end, loop_rec, remove_message, loop_rec_end, wait, wait_timeout, timeout, recv_marker_reserve, recv_marker_bind, recv_marker_use, recv_marker_clear, bs_start_match4, bs_get_integer2, bs_get_binary2, bs_skip_bits2, bs_test_tail2, bs_test_unit, bs_get_tail, bs_get_position, bs_set_position, bs_create_bin, AsmFun, AsmModule}
 use Rattle.beam_table.specs.Data.{do_init, do_allocate, drops, if_cons, if_tuple, if_map, read_pairs, write_all, firsts, seconds, put_in, do_put_map, all_or_jumps, do_get_elements}
@@ -352,7 +352,7 @@ module _ (a : AsmModule) (cs : List Activation) (Q : Effect → Inbox → Type 0
 
   call_ext_q : (n : ℕ) (z : Extern) (m : Machine) → At m → Q (do_call_ext a n z m) (inbox m)
   unfolding do_call_ext
-  call_ext_q n z m e = frame_unless_q (never_returns z) m _ (call_any_q n z m alone e alone_q)
+  call_ext_q n z m e = frame_unless_q (never_returns z.mod_name z.name z.arity) m _ (call_any_q n z m alone e alone_q)
 
   call_ext_only_q : (n : ℕ) (z : Extern) (m : Machine) → At m → Q (do_call_ext_only a n z m) (inbox m)
   unfolding do_call_ext_only

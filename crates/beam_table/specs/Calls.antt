@@ -4,7 +4,7 @@ use Rattle.erl_base.specs.Names.{Name, same_name}
 use Rattle.erl_term.specs.Term as T
 use Rattle.erl_term.specs.Term.{Term, none, more}
 use Rattle.erl_term.specs.Terms.{terms, listed, tagged, list_of}
-use Rattle.bif_table.specs.Builtins.{lookup, raises_always}
+use Rattle.bif_table.specs.Builtins.{lookup, never_returns}
 use Rattle.bif_table.specs.BuiltinAnswer.{Answer, value, raised, answer, badarg}
 use Rattle.world_model.specs.World as W
 use Rattle.world_model.specs.Requests.{is_send}
@@ -17,10 +17,6 @@ use Rattle.beam_table.specs.GeneralRules.{Effect, needs, in_frame, no_frame, if_
 -- the running activation waits above the one that comes
 abbrev pub suspended : Machine → Machine
 suspended m = record m { callers = record { frame = m.frame; back = m.code } ∷ m.callers; frame = None }
-
--- a function of the module erlang that always raises
-abbrev pub never_returns : Extern → Bool
-never_returns e = same_name e.mod_name (codes "erlang") && raises_always e.name e.arity
 
 -- needs a frame but in this case
 abbrev pub frame_unless : Bool → Machine → Effect → Effect
@@ -109,7 +105,7 @@ module _ (a : AsmModule) where
   -- {call_ext,A,{extfunc,M,F,A}}: needs a frame unless the function always raises
   unfoldable pub do_call_ext : ℕ → Extern → Machine → Effect
   unfolding call_any
-  do_call_ext n e m = frame_unless (never_returns e) m (call_any n e m alone)
+  do_call_ext n e m = frame_unless (never_returns e.mod_name e.name e.arity) m (call_any n e m alone)
 
   -- {call_ext_only,A,{extfunc,M,F,A}}: needs no frame; answers, and goes on as return does
   unfoldable pub do_call_ext_only : ℕ → Extern → Machine → Effect

@@ -17,7 +17,7 @@ use Rattle.step_machine.specs.Bodies.{Here}
 use Rattle.step_machine.specs.EntryBound.{Lowers}
 use Rattle.step_machine.specs.Frames.{MatchContext}
 use Rattle.ssa_form.specs.Storage.{Held, term, context, position, marker, Handler, Leaving, calls, ends_body, Storage, Frame, After, next, choose, raise, finish, Mode, plain, tail, jump, tests, Around, go_on, when, if_some, outside, inside, kept, in_window}
-use Rattle.ssa_form.specs.Values.{handed, never_returns, puts_of, is_tail}
+use Rattle.ssa_form.specs.Values.{handed, raises_for_sure, puts_of, is_tail}
 use Rattle.ssa_form.specs.SetFacts.{is_tests}
 use Rattle.ssa_form.specs.Operations.{put, collected, forgotten, gives_held, asked, found, answers, leaving, follows, ends_with, calls_by, leaving_of, local_does, remote_does, fun_does, send_does, raise_does, cons_does, map_does, option_held, key_does, element_does, cell_does, fun_made, start_does, with_context, at_context, took, takes_segment, restore_does, take_does, skip_does, waited, waits_for, wait_does, bind_does}
 use Rattle.ssa_form.proofs.Rank.{by_left, by_replies, by_mailbox, by_ahead, AtMost, lower, same, most_twice, closed, rank, Fits}
@@ -298,7 +298,7 @@ module _ {S : Type 0} (w : Walk S) where
     pub remote_quiet : (m : Mode) (dst : Option ℕ) (vs : Values) (f : Frame S) (s : State) → Eased f s
         → Q m true (remote_does w.o w.around w.here m dst vs f s)
     remote_quiet m dst (t ∷ g ∷ vs) f s e = calls_quiet m true m
-        (leaving_of w.o w.around w.here (never_returns t g (length vs))) dst _ f s (remote_spends w.here.own t g vs)
+        (leaving_of w.o w.around w.here (raises_for_sure t g (length vs))) dst _ f s (remote_spends w.here.own t g vs)
         (λ c y q. refl) e
     remote_quiet m dst [] f s e = tt
     remote_quiet m dst (t ∷ []) f s e = tt

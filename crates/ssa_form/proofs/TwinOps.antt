@@ -20,7 +20,7 @@ use Rattle.ssa_form.specs.Ssa as Ssa
 use Rattle.ssa_form.specs.Ssa.{Arg, var, lit, Op}
 use Rattle.ssa_form.specs.Checks.{check_holds}
 use Rattle.ssa_form.specs.Storage.{Held, unset, term, context, position, marker, Handler, Leaving, calls, ends_body, always_raises, Frame, After, next, choose, raise, finish, Mode, plain, tail, jump, tests, Around, go_on, when, if_some, outside}
-use Rattle.ssa_form.specs.Values.{terms_of, handed, never_returns, puts_of, parts_of, is_tail}
+use Rattle.ssa_form.specs.Values.{terms_of, handed, raises_for_sure, puts_of, parts_of, is_tail}
 use Rattle.ssa_form.specs.SetFacts.{gives_nothing, is_try_start, names_handler}
 use Rattle.ssa_form.specs.SsaRun.{Vars, in_vars, no_handlers, only_if, without_first, with_handlers}
 use Rattle.ssa_form.specs.Operations.{put, collected, gives_held, asked, found, answers, leaving, follows, ends_with, calls_by, leaving_of, local_does, remote_does, fun_does, send_does, raise_does, cons_does, map_does, option_held, key_does, element_does, cell_does, fun_made, start_does, with_context, at_context, took, takes_segment, restore_does, open_does, close_does, seen, seen_or, looks, peek_does, take_does, skip_does, waited, waits_for, wait_does, bind_does, use_does, on_terms, does}
@@ -200,7 +200,7 @@ module _ (around : Around) (here : Here) (V W : ℕ → Held) (d : Option ℕ) (
 
     remote_both : (m : Mode) (vs : Values) (c : List MatchContext) (s : State)
         → B (remote_does in_vars around here m d vs (one V c) s) (remote_does in_vars around here m d vs (one W c) s)
-    remote_both m (t ∷ g ∷ vs) c s = calls_both m (leaving_of in_vars around here (never_returns t g (length vs))) _ c s
+    remote_both m (t ∷ g ∷ vs) c s = calls_both m (leaving_of in_vars around here (raises_for_sure t g (length vs))) _ c s
     remote_both m [] c s = both_bad
     remote_both m (t ∷ []) c s = both_bad
 
