@@ -78,11 +78,11 @@ mutual
     and_seg : Seg → Segs → Segs
 
 -- what a term may have the shape of: a term itself, a list cell, a tuple of a size, a map with a key
-pub data Shape : Type 0 where
-  is : Term → Shape
-  is_cons : Shape
-  is_tuple : ℕ → Shape
-  map_has : Value → Shape
+pub data CaseShape : Type 0 where
+  is : Term → CaseShape
+  is_cons : CaseShape
+  is_tuple : ℕ → CaseShape
+  map_has : Value → CaseShape
 
 -- a step on bits; the contexts that it reads and moves on are variables
 pub data BinStep : Type 0 where
@@ -123,7 +123,7 @@ mutual
 
   -- a shape, the variables of its parts, and the tree for it
   pub data Case : Type 0 where
-    case : Shape → List ℕ → Tree → Case
+    case : CaseShape → List ℕ → Tree → Case
 
   pub data Cases : Type 0 where
     no_case : Cases

@@ -120,7 +120,7 @@ seg_view = fold-KSeg Plain.Pattern Plain.KeyPattern Plain.Seg pat_step key_step 
 -- Expressions and trees.
 
 -- the plain shape
-abbrev pub shape_view : Shape → Plain.Shape
+abbrev pub shape_view : Shape → Plain.CaseShape
 shape_view (H.Lit t) = Plain.is (Terms.view t)
 shape_view H.Cons = Plain.is_cons
 shape_view (H.Tuple n) = Plain.is_tuple n

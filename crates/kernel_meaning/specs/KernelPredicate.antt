@@ -8,7 +8,7 @@ use Rattle.erl_term.specs.TermOrder.{same_term}
 use Rattle.erl_term.specs.Terms.{listed}
 use Rattle.bif_table.specs.Builtins.{arity_of}
 use Rattle.world_model.specs.RemoteCalls.{takes}
-use Rattle.kernel_form.specs.Kernel.{Value, var, lit, MapPair, Part, Simple, value, cons, tuple, map_put, bits, make_fun, bif, local, apply, remote, send, trace, raise, failing, any, bind, known, Seg, seg, Segs, no_seg, and_seg, Shape, is, is_cons, is_tuple, map_has, BinStep, start, integer, take_bits, done, mark, back, Expr, values, simple, let_in, match_in, try, catch, receive, Tree, body, fall, either_in, switch, segments, step, guarded, case, Cases, no_case, and_case, seg_row, SegRows, no_row, and_row, Fun}
+use Rattle.kernel_form.specs.Kernel.{Value, var, lit, MapPair, Part, Simple, value, cons, tuple, map_put, bits, make_fun, bif, local, apply, remote, send, trace, raise, failing, any, bind, known, Seg, seg, Segs, no_seg, and_seg, CaseShape, is, is_cons, is_tuple, map_has, BinStep, start, integer, take_bits, done, mark, back, Expr, values, simple, let_in, match_in, try, catch, receive, Tree, body, fall, either_in, switch, segments, step, guarded, case, Cases, no_case, and_case, seg_row, SegRows, no_row, and_row, Fun}
 use Rattle.kernel_meaning.specs.Environment.{width}
 use Rattle.kernel_meaning.specs.KernelRun.{widths}
 use Rattle.kernel_meaning.specs.Windows.{window_fits}
@@ -91,7 +91,7 @@ simple_scoped xs (raise v r) = sees xs v && sees xs r
 simple_scoped xs (failing v) = sees xs v
 
 -- a shape reads at most the key of a map
-abbrev pub shape_scoped : List ℕ → Shape → Bool
+abbrev pub shape_scoped : List ℕ → CaseShape → Bool
 shape_scoped xs (map_has v) = sees xs v
 shape_scoped xs _ = true
 
@@ -202,7 +202,7 @@ calls_fit ws _ = true
 -- and the last tree is no switch on the same variable.
 
 -- whether no term has both shapes; a shape with a key may have terms in common with others
-abbrev pub apart : Shape → Shape → Bool
+abbrev pub apart : CaseShape → CaseShape → Bool
 apart (map_has v) h = true
 apart h (map_has v) = true
 apart (is t) (is u) = not (same_term t u)
@@ -215,14 +215,14 @@ apart (is_tuple n) (is_tuple m) = not (eqb n m)
 apart _ _ = true
 
 -- how many parts a term of the shape has
-abbrev pub parts_in : Shape → ℕ
+abbrev pub parts_in : CaseShape → ℕ
 parts_in (is t) = 0
 parts_in is_cons = 2
 parts_in (is_tuple n) = n
 parts_in (map_has v) = 1
 
 -- whether a shape is apart from those of cases
-abbrev pub apart_from : Shape → Cases → Bool
+abbrev pub apart_from : CaseShape → Cases → Bool
 apart_from h no_case = true
 apart_from h (and_case (case k xs t) cs) = apart h k && apart_from h cs
 
