@@ -1,8 +1,7 @@
 //! The text of an assembly module: the printer, and what module a text has. It reads no text.
 //!
 //! Only modules that have a text today are printed: names without quotes, no attributes, moves of registers, atoms
-//! and integers, and returns. Memory may be refused at any time: a body that always refuses it meets the contracts,
-//! and the test shows that the calls succeed.
+//! and integers, and returns.
 #![tactic(auto)]
 
 mod encode;
@@ -13,6 +12,3 @@ mod words;
 pub use encode::encoded;
 pub use laws::{examples_have_their_texts, text_has_one_module};
 pub use printer::print;
-
-#[cfg(test)]
-mod tests;

@@ -1,6 +1,5 @@
 //! The instructions of BEAM assembly, modules of them, and the machine that runs them.
 //! The functions of `laws` have no code: the contract of each is a law of the machine.
-//! A body of a call that copies may always answer NoMemory: the tests run each with ample memory.
 #![tactic(auto)]
 
 mod asm;
@@ -10,8 +9,6 @@ mod insn;
 mod laws;
 mod opcode;
 mod operand;
-#[cfg(test)]
-mod tests;
 
 pub use asm::{AsmFun, AsmFuns, AsmModule, FunKeys};
 pub use family::Family;

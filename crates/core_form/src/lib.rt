@@ -1,14 +1,10 @@
 //! The syntax tree of a Core Erlang module and its reading as a plain tree; names, degrees and limits are judged
 //! elsewhere.
-//!
-//! A body that always answers want of memory meets the contract of every `copy`: a test copies each with ample memory.
 #![tactic(auto)]
 
 pub mod build;
 mod laws;
 mod module;
-#[cfg(test)]
-mod tests;
 mod tree;
 
 pub use laws::{parts_have_no_more_nodes, sites_are_counted};

@@ -1,7 +1,5 @@
 //! Names, places, refusals, the list and box types that every other crate is built of, and parts of slices and of wholes.
 //!
-//! A body that always answers want of memory meets the contracts of `push`, `Boxed::new`, `from_text`, `both`, `three` and every
-//! `copy`: no clause says when there is memory. The tests run each of these calls with ample memory and compare what it gives.
 //! `let_go` promises only that it ends: what it lets go of is not seen again.
 #![tactic(auto)]
 
@@ -24,6 +22,3 @@ pub use name::Name;
 pub use parts::{both, let_go, three};
 pub use refusal::{Fault, Kind, LimitName, Outside, Refusal, ScopeFault};
 pub use slices::{behind, front};
-
-#[cfg(test)]
-mod tests;

@@ -1,13 +1,9 @@
 //! What the trees of kernel form are made of: values, simple steps, patterns, the shapes that a switch asks for and the
 //! steps over a bit string; and their copies.
-//!
-//! Bodies that always answer NoMemory meet the contracts; the tests run each such call with ample memory.
 #![tactic(auto)]
 
 mod pattern;
 mod shape;
-#[cfg(test)]
-mod tests;
 mod value;
 
 pub use pattern::{KKeyPat, KKeyPats, KPat, KPats, KSeg, KSegs};

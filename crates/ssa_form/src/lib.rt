@@ -1,7 +1,6 @@
 //! Bodies of functions as basic blocks in SSA form, plain, with spots and with stack frames; who makes them is said
 //! elsewhere. A law's function has no code: its contract is the law.
-// Every call that takes memory may answer NoMemory, which no clause ties to a cause; tests show that the calls can
-// succeed. `Arg::default` fills unused places of short lists, and no clause speaks of it.
+// `Arg::default` fills unused places of short lists, and no clause speaks of it.
 #![tactic(auto)]
 
 mod args;
@@ -32,6 +31,3 @@ pub use placed::{
 };
 pub use small::SmallList;
 pub use stage::{Formed, Ssa, Stage};
-
-#[cfg(test)]
-mod tests;

@@ -7,9 +7,6 @@
 //! there. `finish` checks and decodes them once more. It takes the bytes, and then four bytes a character.
 //!
 //! The catch: a character that is cut by the end of a piece is no fault until the text ends there.
-//!
-//! What the contracts leave open is want of memory alone: `feed`, `finish` and `characters` may answer it at any time. The
-//! tests call each with ample memory.
 #![tactic(auto)]
 
 mod pieces;

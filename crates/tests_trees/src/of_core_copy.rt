@@ -1,4 +1,4 @@
-use crate::CoreCopy;
+use core_copy::CoreCopy;
 use core_form::build::{exprs, lists, nodes, patterns};
 use core_form::{
     Binder, Binders, Clauses, Defs, Expr, ExprForm, Exprs, FunName, KeyPattern, KeyPatterns,

@@ -1,4 +1,4 @@
-use crate::KernelCopy;
+use kernel_copy::KernelCopy;
 use erl_base::{FunKey, List, Name, NoMemory, SiteId, VarId};
 use kernel_form::build::{
     body, boxed, boxed_tree, catch_of, either, fall, give, guarded, let_in, match_in, one_var,

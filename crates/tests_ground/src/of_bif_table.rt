@@ -1,4 +1,4 @@
-use crate::{Bif, is_guard, lookup};
+use bif_table::{Bif, is_guard, lookup};
 use erl_base::{FunKey, Name, NoMemory};
 use std::alloc::Global;
 use std::test::Fail;

@@ -1,7 +1,7 @@
 ghost use Rattle.std.specs.Prelude.{Contains, IfOk};
 ghost use Rattle.ssa_form.specs.SetOrder.{IsWhole, nodes_of};
 
-use crate::{Arg, Args, Body, Check, Edges, Field, Fields, Last, Op, Phi, Set, SwitchChoices};
+use ssa_form::{Arg, Args, Body, Check, Edges, Field, Fields, Last, Op, Phi, Set, SwitchChoices};
 use bif_table::Bif;
 use erl_base::{BlockId, Duplicate, FunKey, List, Name, NoMemory, NodeId, SiteId, VarId};
 use erl_term::Term;

@@ -4,7 +4,7 @@ ghost use Rattle.beam_table.specs.ValidModule.{every};
 ghost use Rattle.term_text.specs.Atoms.{is_plain_name};
 ghost use Rattle.asm_text.specs.AssemblyText.{source_has_text, fun_has_text, HasText};
 
-use crate::{encoded, print};
+use asm_text::{encoded, print};
 use beam_table::{AsmFun, AsmFuns, AsmModule, FunKeys, Insn, Insns, Reg, Source};
 use erl_base::{Bytes, FunKey, LabelId, List, Name, NoMemory};
 use erl_term::Attributes;

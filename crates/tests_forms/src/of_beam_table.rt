@@ -1,4 +1,4 @@
-use crate::{
+use beam_table::{
     AsmFun, AsmFuns, AsmModule, Extern, Flags, GetPair, Insn, Insns, PutPair, Reg, Segment,
     SegmentKind, SizeChoice, Source, ValueChoice,
 };

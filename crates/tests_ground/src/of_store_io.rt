@@ -1,4 +1,4 @@
-use crate::{
+use store_io::{
     CallNumbers, Failed, FaultySink, FaultyStore, LoadFault, MemorySink, MemoryStore, Sink, Store,
     load_all, put_all, store_all,
 };

@@ -1,4 +1,4 @@
-use crate::{BinStep, KKeyPat, KPair, KPart, KPat, KSimple, KValue, Shape};
+use kernel_parts::{BinStep, KKeyPat, KPair, KPart, KPat, KSimple, KValue, Shape};
 use erl_base::{Duplicate, List, NoMemory, VarId};
 use erl_term::Term;
 use std::alloc::Global;

@@ -1,4 +1,4 @@
-use crate::{Delay, Happening, How, Message, Reply, Request, Script};
+use world_model::{Delay, Happening, How, Message, Reply, Request, Script};
 use erl_base::{Duplicate, List, Name, NoMemory};
 use erl_term::Term;
 use std::alloc::Global;

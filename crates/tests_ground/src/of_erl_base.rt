@@ -1,4 +1,4 @@
-use crate::{Boxed, Duplicate, FunKey, List, Name, NoMemory, VarId, both, three};
+use erl_base::{Boxed, Duplicate, FunKey, List, Name, NoMemory, VarId, both, three};
 use std::cmp::Ordering;
 use std::test::Fail;
 
