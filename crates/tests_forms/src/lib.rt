@@ -1,4 +1,4 @@
-//! Tests of SSA form, of the machine's instructions and of their text: what no clause says and no row of a table can show.
+//! Tests of SSA form, of the machine's instructions and of their text: what no clause and no row of a table can show.
 //!
 //! Each call that takes memory gives its value when there is memory; sets are read in their order; three modules have
 //! the texts that stand here.

@@ -1,3 +1,4 @@
+// Of beam_table: operands, instructions and modules are copied.
 use beam_table::{
     AsmFun, AsmFuns, AsmModule, Extern, Flags, GetPair, Insn, Insns, PutPair, Reg, Segment,
     SegmentKind, SizeChoice, Source, ValueChoice,

@@ -1,3 +1,4 @@
+// Of bif_table: listed functions are found by name and arity alone.
 use bif_table::{Bif, is_guard, lookup};
 use erl_base::{FunKey, Name, NoMemory};
 use std::alloc::Global;

@@ -1,8 +1,9 @@
+// Of erl_term: kinds of terms rise in the order of Erlang, from numbers to lists; attributes, bits, pairs are copied.
 ghost use Rattle.std.specs.Prelude.{◌≡◌, IfOk};
 ghost use Rattle.erl_term.specs.WellFormed.{IsFull, IsNormal};
 
-use erl_term::{Attribute, Bits, Class, Pair, Term, compare};
 use erl_base::{Boxed, Duplicate, List, Name, NoMemory, SiteId};
+use erl_term::{Attribute, Bits, Class, Pair, Term, compare};
 use std::alloc::Global;
 use std::cmp::Ordering;
 use std::test::Fail;

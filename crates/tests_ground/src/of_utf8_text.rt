@@ -1,3 +1,4 @@
+// Of utf8_text: texts and refusals are the same at each cut, and a refusal comes again.
 use erl_base::{Fault, Kind, Place, Refusal};
 use std::alloc::Global;
 use std::str;

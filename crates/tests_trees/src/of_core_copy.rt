@@ -1,3 +1,4 @@
+// Of core_copy: a tree of all forms, made by the builders of core_form, is copied.
 use core_copy::CoreCopy;
 use core_form::build::{exprs, lists, nodes, patterns};
 use core_form::{

@@ -1,3 +1,4 @@
+// Of core_form: sites and names are copied, and a module takes other definitions.
 use core_form::build::{exprs, lists, nodes};
 use core_form::{Binder, Binders, Defs, FunName, Module, Site};
 use erl_base::{Duplicate, FunKey, List, Name, NoMemory, Place};
