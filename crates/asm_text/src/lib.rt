@@ -28,6 +28,3 @@ mod words;
 pub use encode::encoded;
 pub use laws::{examples_have_their_texts, text_has_one_module};
 pub use printer::print;
-
-#[cfg(test)]
-mod tests;

@@ -24,8 +24,6 @@ mod insn;
 mod laws;
 mod opcode;
 mod operand;
-#[cfg(test)]
-mod tests;
 
 pub use asm::{AsmFun, AsmFuns, AsmModule, FunKeys};
 pub use family::Family;

@@ -10,8 +10,6 @@
 #![tactic(auto)]
 
 mod copies;
-#[cfg(test)]
-mod tests;
 mod tree;
 
 pub use tree::CoreCopy;

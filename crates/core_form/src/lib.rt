@@ -14,8 +14,6 @@
 pub mod build;
 mod laws;
 mod module;
-#[cfg(test)]
-mod tests;
 mod tree;
 
 pub use laws::{parts_have_no_more_nodes, sites_are_counted};

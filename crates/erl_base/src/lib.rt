@@ -29,6 +29,3 @@ pub use name::Name;
 pub use parts::{both, let_go, three};
 pub use refusal::{Fault, Kind, LimitName, Outside, Refusal, ScopeFault};
 pub use slices::{behind, front};
-
-#[cfg(test)]
-mod tests;

@@ -15,8 +15,6 @@ mod laws;
 mod maps;
 mod order;
 mod term;
-#[cfg(test)]
-mod tests;
 
 pub use laws::{
     bits_hold_their_number, maps_keep_what_is_put, order_is_total, order_tells_terms_apart,

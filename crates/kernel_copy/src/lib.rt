@@ -9,8 +9,6 @@
 mod chains;
 mod copies;
 mod nodes;
-#[cfg(test)]
-mod tests;
 mod tree;
 
 pub use tree::KernelCopy;

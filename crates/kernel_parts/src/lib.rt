@@ -9,8 +9,6 @@
 
 mod pattern;
 mod shape;
-#[cfg(test)]
-mod tests;
 mod value;
 
 pub use pattern::{KKeyPat, KKeyPats, KPat, KPats, KSeg, KSegs};

@@ -45,6 +45,3 @@ pub use placed::{
 };
 pub use small::SmallList;
 pub use stage::{Formed, Ssa, Stage};
-
-#[cfg(test)]
-mod tests;

@@ -28,6 +28,3 @@ pub use sink::Sink;
 pub use std_sink::StdSink;
 pub use store::{Failed, Store};
 pub use whole::{LoadFault, MAX_FILE, load_all, put_all, store_all};
-
-#[cfg(test)]
-mod tests;

@@ -169,6 +169,3 @@ pub fn characters(alloc: Global, pieces: &[&[u8]]) -> Result<Vec<char>, Fault>
     }
     text.finish(alloc)
 }
-
-#[cfg(test)]
-mod tests;

@@ -1,5 +1,8 @@
-use super::*;
-use std::test::Fail;
+// Of utf8_text: texts and refusals are the same at each cut, and a refusal comes again.
+use erl_base::{Fault, Kind, Place, Refusal};
+use std::alloc::Global;
+use std::str;
+use utf8_text::{Pieces, characters};
 
 // The bytes, and the place of the refusal or none for a text.
 const TEXTS: [(&[u8], Option<(u64, u64)>); 12] = [
@@ -19,7 +22,10 @@ const TEXTS: [(&[u8], Option<(u64, u64)>); 12] = [
 
 fn at(place: (u64, u64)) -> Fault {
     let (line, column) = place;
-    refused(Place { line, column })
+    Fault::Refused(Refusal {
+        kind: Kind::NotUtf8,
+        place: Place { line, column },
+    })
 }
 
 // Whether the pieces give the characters of the text, or the refusal.

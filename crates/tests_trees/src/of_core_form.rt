@@ -1,4 +1,6 @@
-use crate::{Binder, Binders, FunName, Site};
+// Of core_form: sites and names are copied, and a module takes other definitions.
+use core_form::build::{exprs, lists, nodes};
+use core_form::{Binder, Binders, Defs, FunName, Module, Site};
 use erl_base::{Duplicate, FunKey, List, Name, NoMemory, Place};
 use std::alloc::Global;
 use std::test::Fail;
@@ -44,5 +46,33 @@ fn a_name_is_copied(rt: HostRuntime) -> Result<(), Fail> {
     };
     let copy: FunName = Duplicate::copy(&name, rt.alloc())?;
     assert_eq!(rt; copy.place, HERE);
+    Ok(())
+}
+
+fn defs(alloc: Global) -> Result<Defs, NoMemory> {
+    let answer = exprs::var(alloc, HERE, Name::from_text(alloc, "X"));
+    let right = exprs::fun(alloc, HERE, vars(alloc), answer);
+    lists::and_def(
+        Ok(List::new(alloc)),
+        nodes::def(alloc, key(alloc), HERE, right),
+    )
+}
+
+#[test]
+fn a_module_takes_other_definitions(rt: HostRuntime) -> Result<(), Fail> {
+    let alloc = rt.alloc();
+    let module = Module {
+        name: Name::from_text(alloc, "m")?,
+        exports: List::new(alloc),
+        attributes: List::new(alloc),
+        defs: List::new(alloc),
+        floats: Some(HERE),
+        wide: None,
+        long: None,
+    };
+    let other = nodes::with_defs(alloc, &module, defs(alloc))?;
+    assert_eq!(rt; other.defs.len(), 1);
+    assert!(rt; other.name.as_str() == "m" && other.exports.is_empty());
+    assert_eq!(rt; other.floats, Some(HERE));
     Ok(())
 }

@@ -1,9 +1,10 @@
-use crate::{
+// Of store_io: whole reads and writes over files in memory, a room that is full, and calls that fail by their number.
+use std::alloc::Global;
+use std::test::Fail;
+use store_io::{
     CallNumbers, Failed, FaultySink, FaultyStore, LoadFault, MemorySink, MemoryStore, Sink, Store,
     load_all, put_all, store_all,
 };
-use std::alloc::Global;
-use std::test::Fail;
 
 fn numbers(alloc: Global, number: u64) -> Result<CallNumbers, Fail> {
     let mut failing = CallNumbers::new(alloc);

@@ -1,5 +1,6 @@
-use crate::KernelCopy;
+// Of kernel_copy: all forms, made by the builders of kernel_form, are copied; long chains need no stack.
 use erl_base::{FunKey, List, Name, NoMemory, SiteId, VarId};
+use kernel_copy::KernelCopy;
 use kernel_form::build::{
     body, boxed, boxed_tree, catch_of, either, fall, give, guarded, let_in, match_in, one_var,
     receive, segments, simple, step, switch, try_of, two_values, var,

@@ -1,7 +1,7 @@
 -- The names are plain.
 use Rattle.std.proofs.Common.{refl}
 use Rattle.std.specs.Str.{chars}
-use Rattle.asm_text.proofs.tests.one.Goals as goal
+use Rattle.tests_forms.proofs.of_asm_text.one.Goals as goal
 
 pub key-requires : goal.key-requires
 unfolding chars

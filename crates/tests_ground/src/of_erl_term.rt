@@ -1,8 +1,9 @@
+// Of erl_term: kinds of terms rise in the order of Erlang, from numbers to lists; attributes, bits, pairs are copied.
 ghost use Rattle.std.specs.Prelude.{◌≡◌, IfOk};
 ghost use Rattle.erl_term.specs.WellFormed.{IsFull, IsNormal};
 
-use crate::{Attribute, Bits, Class, Pair, Term, compare};
 use erl_base::{Boxed, Duplicate, List, Name, NoMemory, SiteId};
+use erl_term::{Attribute, Bits, Class, Pair, Term, compare};
 use std::alloc::Global;
 use std::cmp::Ordering;
 use std::test::Fail;
@@ -77,7 +78,7 @@ fn listing(alloc: Global) -> Result<Term, NoMemory>
     Ok(Term::List(items, Boxed::new(alloc, Term::Pid(0))?))
 }
 
-#[tactic(auto, unfolding(crate::specs::WellFormed::bits_fit, crate::specs::BitString::byte_bits))]
+#[tactic(auto, unfolding(erl_term::specs::WellFormed::bits_fit, erl_term::specs::BitString::byte_bits))]
 fn three_bits(alloc: Global) -> Result<Bits, NoMemory>
     ensures { IfOk result (λ bits. IsFull bits) }
 {

@@ -1,4 +1,5 @@
-use crate::CoreCopy;
+// Of core_copy: a tree of all forms, made by the builders of core_form, is copied.
+use core_copy::CoreCopy;
 use core_form::build::{exprs, lists, nodes, patterns};
 use core_form::{
     Binder, Binders, Clauses, Defs, Expr, ExprForm, Exprs, FunName, KeyPattern, KeyPatterns,

@@ -1,8 +1,9 @@
-use crate::{Delay, Happening, How, Message, Reply, Request, Script};
+// Of world_model: requests, replies, happenings, messages and scripts are copied.
 use erl_base::{Duplicate, List, Name, NoMemory};
 use erl_term::Term;
 use std::alloc::Global;
 use std::test::Fail;
+use world_model::{Delay, Happening, How, Message, Reply, Request, Script};
 
 fn reply(alloc: Global) -> Result<Reply, NoMemory> {
     let mut arrivals = List::new(alloc);

@@ -1,23 +1,62 @@
+// Of asm_text: three modules have these texts, and characters of one to four bytes these bytes.
 ghost use Rattle.std.specs.Prelude.{◌≡◌, IfOk, IsTrue, chars, map};
 ghost use Rattle.beam_table.specs.View.{source_view, fun_view, module_view};
 ghost use Rattle.beam_table.specs.ValidModule.{every};
 ghost use Rattle.term_text.specs.Atoms.{is_plain_name};
 ghost use Rattle.asm_text.specs.AssemblyText.{source_has_text, fun_has_text, HasText};
 
-use crate::{encoded, print};
+use asm_text::{encoded, print};
 use beam_table::{AsmFun, AsmFuns, AsmModule, FunKeys, Insn, Insns, Reg, Source};
 use erl_base::{Bytes, FunKey, LabelId, List, Name, NoMemory};
 use erl_term::Attributes;
 use std::alloc::Global;
 use std::test::Fail;
 
-const EMPTY: &str = "{module,m}.\n{exports,[]}.\n{attributes,[]}.\n{labels,1}.\n";
+const EMPTY: &str = "{module,m}.
+{exports,[]}.
+{attributes,[]}.
+{labels,1}.
+";
 
-const ONE: &str =
-    "{module,one}.\n{exports,[{one,0}]}.\n{attributes,[]}.\n{labels,3}.\n\n{function,one,0,2}.\n  {label,1}.\n    {func_info,{atom,one},{atom,one},0}.\n  {label,2}.\n    {move,{integer,1},{x,0}}.\n    return.\n";
+const ONE: &str = "{module,one}.
+{exports,[{one,0}]}.
+{attributes,[]}.
+{labels,3}.
 
-const SOURCES: &str =
-    "{module,m}.\n{exports,[{f,3},{g,255}]}.\n{attributes,[]}.\n{labels,4294967296}.\n\n{function,f,3,2}.\n  {label,1}.\n    {func_info,{atom,m},{atom,f},3}.\n  {label,2}.\n    {move,{x,1022},{y,0}}.\n    return.\n\n{function,g,255,4}.\n  {label,3}.\n    {func_info,{atom,m},{atom,g},255}.\n  {label,4}.\n    {move,{atom,h_2@B},{x,10}}.\n    return.\n\n{function,h,0,6}.\n  {label,4294967295}.\n    {func_info,{atom,m},{atom,h},0}.\n  {label,6}.\n    {move,{integer,-170141183460469231731687303715884105728},{x,0}}.\n    return.\n";
+{function,one,0,2}.
+  {label,1}.
+    {func_info,{atom,one},{atom,one},0}.
+  {label,2}.
+    {move,{integer,1},{x,0}}.
+    return.
+";
+
+const SOURCES: &str = "{module,m}.
+{exports,[{f,3},{g,255}]}.
+{attributes,[]}.
+{labels,4294967296}.
+
+{function,f,3,2}.
+  {label,1}.
+    {func_info,{atom,m},{atom,f},3}.
+  {label,2}.
+    {move,{x,1022},{y,0}}.
+    return.
+
+{function,g,255,4}.
+  {label,3}.
+    {func_info,{atom,m},{atom,g},255}.
+  {label,4}.
+    {move,{atom,h_2@B},{x,10}}.
+    return.
+
+{function,h,0,6}.
+  {label,4294967295}.
+    {func_info,{atom,m},{atom,h},0}.
+  {label,6}.
+    {move,{integer,-170141183460469231731687303715884105728},{x,0}}.
+    return.
+";
 
 fn key(alloc: Global, text: &str, arity: u32) -> Result<FunKey, NoMemory>
     requires { IsTrue (is_plain_name (chars text.now)) }

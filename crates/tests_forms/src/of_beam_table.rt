@@ -1,4 +1,5 @@
-use crate::{
+// Of beam_table: operands, instructions and modules are copied.
+use beam_table::{
     AsmFun, AsmFuns, AsmModule, Extern, Flags, GetPair, Insn, Insns, PutPair, Reg, Segment,
     SegmentKind, SizeChoice, Source, ValueChoice,
 };

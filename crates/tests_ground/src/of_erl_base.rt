@@ -1,4 +1,5 @@
-use crate::{Boxed, Duplicate, FunKey, List, Name, NoMemory, VarId, both, three};
+// Of erl_base: lists, boxes, names and keys are made and copied, and names are in the order of their characters.
+use erl_base::{Boxed, Duplicate, FunKey, List, Name, NoMemory, VarId, both, three};
 use std::cmp::Ordering;
 use std::test::Fail;
 

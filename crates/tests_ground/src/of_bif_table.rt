@@ -1,4 +1,5 @@
-use crate::{Bif, is_guard, lookup};
+// Of bif_table: listed functions are found by name and arity alone.
+use bif_table::{Bif, is_guard, lookup};
 use erl_base::{FunKey, Name, NoMemory};
 use std::alloc::Global;
 use std::test::Fail;

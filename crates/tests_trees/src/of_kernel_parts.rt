@@ -1,6 +1,7 @@
-use crate::{BinStep, KKeyPat, KPair, KPart, KPat, KSimple, KValue, Shape};
+// Of kernel_parts: steps, shapes and patterns are copied.
 use erl_base::{Duplicate, List, NoMemory, VarId};
 use erl_term::Term;
+use kernel_parts::{BinStep, KKeyPat, KPair, KPart, KPat, KSimple, KValue, Shape};
 use std::alloc::Global;
 use std::test::Fail;
 
