@@ -6,7 +6,7 @@ use Rattle.std.proofs.lemmas.List.Folds.{concat-append}
 use Rattle.std.specs.List.{concat}
 use Rattle.store_io.specs.Causes.{Rose}
 use Rattle.store_io.specs.Files.{Alike, PutsAll}
-use Rattle.erlc_cli.specs.Notes.{Noted}
+use Rattle.erlc_cli.specs.Notes.{HasLine}
 
 first_part : (a b : List ℕ) (n : ℕ) → (m : ℕ) × (take n a ≡ take m (a ++ b))
 first_part a b zero = (0, refl)
@@ -36,7 +36,7 @@ puts_both E (Err e) a b (Some x) (Some y) (Some z) p q =
 
 -- what a call that ended so has noted
 pub noted : (E : Type 0) (r : Result (Unit {0}) E) (line : List ℕ) (f g : ℕ) (x y : Option (List ℕ)) → Alike x y (PutsAll line r) → OnErr r (Rose f g)
-    → Alike x y (Noted line f g)
+    → Alike x y (HasLine line f g)
 noted E r line f g None None p rose = tt
 noted E r line f g None (Some y) p rose = p
 noted E r line f g (Some x) None p rose = p

@@ -15,6 +15,7 @@
 mod act;
 mod action;
 mod compile;
+mod line;
 mod notes;
 mod status;
 
