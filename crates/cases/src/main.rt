@@ -13,21 +13,27 @@
 #![tactic(auto)]
 
 mod calls;
+mod print;
 mod row;
 mod terms;
+mod tokens;
 
 use std::fs;
 use std::test::Fail;
 
 #[derive(Clone, Copy)]
 enum Kind {
+    Tokens,
     Terms,
+    Print,
     Calls,
 }
 
 fn show(rt: &HostRuntime, kind: Kind, row: &str) -> Result<(), Fail> {
     match kind {
+        Kind::Tokens => tokens::show(rt, row),
         Kind::Terms => terms::show(rt, row),
+        Kind::Print => print::show(rt, row),
         Kind::Calls => calls::show(rt, row),
     }
 }
@@ -44,6 +50,8 @@ fn show_all(rt: &HostRuntime, kind: Kind, rows: &str) -> Result<(), Fail> {
 }
 
 fn main(rt: HostRuntime) -> Result<(), Fail> {
+    show_all(&rt, Kind::Tokens, "tokens.rows")?;
     show_all(&rt, Kind::Terms, "terms.rows")?;
+    show_all(&rt, Kind::Print, "print.rows")?;
     show_all(&rt, Kind::Calls, "calls.rows")
 }

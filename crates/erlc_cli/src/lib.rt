@@ -21,6 +21,3 @@ mod status;
 
 pub use act::{run, run_without_words};
 pub use status::Status;
-
-#[cfg(test)]
-mod tests;

@@ -1,7 +1,7 @@
 //! The compiler on bytes, today for plain modules: functions that give an integer, an atom or one of their parameters.
 //! It does not see files or notes.
 //!
-//! Memory may be refused at any time: a body that always refuses it meets the contract, and the test shows that the call
+//! Memory may be refused at any time: a body that always refuses it meets the contract, and stored cases show that the call
 //! succeeds.
 #![tactic(auto)]
 
@@ -44,6 +44,3 @@ pub fn compile(alloc: Global, bytes: &[u8]) -> Result<AsmModule, Fault>
     plain_modules_behave_the_same();
     Ok(made)
 }
-
-#[cfg(test)]
-mod tests;

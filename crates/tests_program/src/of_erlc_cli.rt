@@ -1,6 +1,6 @@
-use crate::notes::note;
-use crate::{Status, run};
-use erl_base::{Kind, LimitName, Place, Refusal, ScopeFault};
+// Stores and sinks that fail, and a file at the limit of its size.
+use erl_base::{Kind, Outside, Place, Refusal};
+use erlc_cli::{Status, run};
 use std::alloc::Global;
 use std::test::Fail;
 use store_io::{CallNumbers, FaultySink, FaultyStore, MemorySink, MemoryStore};
@@ -120,40 +120,29 @@ fn a_failing_third_append_leaves_two_pieces(rt: HostRuntime) -> Result<(), Fail>
     Ok(())
 }
 
+/// The status of the call over a file of so many blanks.
+fn status_of_blanks(alloc: Global, number: usize) -> Result<Status, Fail> {
+    let text = vec![in alloc; b' '; number]?;
+    let mut store = MemoryStore::new(alloc);
+    store.add("in.core", text.as_slice())?;
+    let mut out = MemorySink::new(alloc);
+    let mut notes = MemorySink::new(alloc);
+    let words = words_of(alloc, "compile in.core out.S")?;
+    Ok(run(alloc, words.as_slice(), &mut store, &mut out, &mut notes))
+}
+
 #[test]
-fn lines_name_the_place_and_the_count(rt: HostRuntime) -> Result<(), Fail> {
+fn a_file_has_a_limit(rt: HostRuntime) -> Result<(), Fail> {
     let alloc = rt.alloc();
-    let place = Place {
-        line: 1,
-        column: 58,
+    let not_built = Refusal {
+        kind: Kind::Profile(Outside::NotBuilt),
+        place: Place { line: 1, column: 1 },
     };
-    let rows = [
-        (Kind::TooLarge, "in.core: larger than 16777216 bytes\n"),
-        (Kind::NotUtf8, "in.core:1:58: not UTF-8\n"),
-        (
-            Kind::Scope(ScopeFault::ClauseWidth),
-            "in.core:1:58: wrong clause width\n",
-        ),
-        (
-            Kind::Limit(LimitName::Integer, 39),
-            "in.core:1:58: integer literal of 39 digits\n",
-        ),
-        (
-            Kind::Limit(LimitName::Nodes, 20001),
-            "in.core:1:58: 20001 nodes\n",
-        ),
-        (
-            Kind::Limit(LimitName::Nesting, 2001),
-            "in.core:1:58: nesting 2001\n",
-        ),
-        (Kind::Script, "in.core: no script for this run\n"),
-    ];
-    for (kind, line) in rows.iter() {
-        let mut notes = MemorySink::new(alloc);
-        notes.reserve(100)?;
-        let status = Status::Refused(Refusal { kind: *kind, place });
-        note(&mut notes, status, "in.core", "out.S");
-        assert!(rt; notes.bytes() == line.as_bytes());
-    }
+    let too_large = Refusal {
+        kind: Kind::TooLarge,
+        place: Place { line: 0, column: 0 },
+    };
+    assert_eq!(rt; status_of_blanks(alloc, 16777216)?, Status::Refused(not_built));
+    assert_eq!(rt; status_of_blanks(alloc, 16777217)?, Status::Refused(too_large));
     Ok(())
 }
