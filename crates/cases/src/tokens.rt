@@ -1,4 +1,4 @@
-// A row is a text, and what is shown is its tokens, each with its place and its bytes, or the place at which it is no text.
+// A row is a text, and what is shown is its tokens, each with its place and its bytes, or the place where it is no text.
 use crate::row::bytes_of;
 use core_lex::{LONG_SYMBOLS, SHORT_SYMBOLS, Symbol, Token, TokenKind, WORDS, Word, lex};
 use erl_base::Fault;
@@ -47,7 +47,10 @@ fn show_kind(rt: &HostRuntime, kind: &TokenKind) -> io::Result<()> {
 
 fn show_token(rt: &HostRuntime, token: &Token) -> io::Result<()> {
     show_kind(rt, &token.kind)?;
-    println!(rt; " {}:{} {}-{}", token.place.line, token.place.column, token.from, token.to)
+    println!(rt;
+        " {}:{} {}-{}",
+        token.place.line, token.place.column, token.from, token.to
+    )
 }
 
 pub fn show(rt: &HostRuntime, row: &str) -> Result<(), Fail> {

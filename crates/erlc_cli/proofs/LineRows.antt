@@ -11,7 +11,8 @@ use Rattle.erlc_cli.specs.Lines.{line_of}
 -- the line of a refusal of that kind at line 1 and column 58 of in.core
 abbrev line_at : Kind → List ℕ
 line_at kind =
-    line_of (Refused (record { kind = kind; place = record { line = 1; column = 58 } })) (codes "in.core") (codes "out.S")
+    line_of (Refused (record { kind = kind; place = record { line = 1; column = 58 } }))
+    (codes "in.core") (codes "out.S")
 
 too_large : line_at TooLarge ≡ codes "in.core: larger than 16777216 bytes\n"
 too_large = refl

@@ -52,7 +52,8 @@ CannotRead action old new = ReadsFailed old new ⊎ LacksFile action old
 -- files and rooms, if both are told, lack the room for what the action writes
 abbrev pub LacksRoomToWrite : Option Action → Told → Type 0
 LacksRoomToWrite None told = Unit {0}
-LacksRoomToWrite (Some (compile input output)) told = IfSome told.rooms (λ r. IfSome told.files (λ f. NoRoom input output f r))
+LacksRoomToWrite (Some (compile input output)) told =
+    IfSome told.rooms (λ r. IfSome told.files (λ f. NoRoom input output f r))
 
 -- the theorem on an action, over a store that tells its files
 abbrev pub IsRight : Option Action → Status → Told → Told → Type 0

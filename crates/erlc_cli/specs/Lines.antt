@@ -1,4 +1,4 @@
--- The line of each answer: a table from statuses to the pieces of a line.
+-- The line of each answer: a table from statuses to the pieces of a line, and their texts.
 use Rattle.std.specs.Prelude.{ℕ, List, [], ◌∷◌, map, codes, decimal}
 use Rattle.std.specs.List.{concat}
 use Rattle.erl_base.specs.declared.ids.Place.{Place}
@@ -84,7 +84,8 @@ abbrev pub pieces_of : Status → List Piece
 pieces_of Done = []
 pieces_of (Refused refusal) = refusal_pieces refusal.kind
 pieces_of Usage =
-    text (codes "usage: erlc_core compile IN OUT, check IN, list PASS IN, trace S FUN ARGS SCRIPT LIMIT, sample N, verify S\n") ∷ []
+    text (codes "usage: erlc_core compile IN OUT, check IN, list PASS IN, ")
+    ∷ text (codes "trace S FUN ARGS SCRIPT LIMIT, sample N, verify S\n") ∷ []
 pieces_of ReadFault = input ∷ text (codes ": cannot be read\n") ∷ []
 pieces_of WriteFault = output ∷ text (codes ": cannot be written\n") ∷ []
 pieces_of NoMemory = text (codes "out of memory\n") ∷ []

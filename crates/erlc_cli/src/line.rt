@@ -29,9 +29,10 @@ pub fn pieces_of(status: &Status) -> &'static [Piece]
     match status {
         Status::Done => &[],
         Status::Refused(refusal) => refusal_pieces(refusal.kind),
-        Status::Usage => &[Piece::Text(
-            "usage: erlc_core compile IN OUT, check IN, list PASS IN, trace S FUN ARGS SCRIPT LIMIT, sample N, verify S\n",
-        )],
+        Status::Usage => &[
+            Piece::Text("usage: erlc_core compile IN OUT, check IN, list PASS IN, "),
+            Piece::Text("trace S FUN ARGS SCRIPT LIMIT, sample N, verify S\n"),
+        ],
         Status::ReadFault => &[Piece::Input, Piece::Text(": cannot be read\n")],
         Status::WriteFault => &[Piece::Output, Piece::Text(": cannot be written\n")],
         Status::NoMemory => &[Piece::Text("out of memory\n")],

@@ -142,7 +142,13 @@ fn a_file_has_a_limit(rt: HostRuntime) -> Result<(), Fail> {
         kind: Kind::TooLarge,
         place: Place { line: 0, column: 0 },
     };
-    assert_eq!(rt; status_of_blanks(alloc, 16777216)?, Status::Refused(not_built));
-    assert_eq!(rt; status_of_blanks(alloc, 16777217)?, Status::Refused(too_large));
+    assert_eq!(rt;
+        status_of_blanks(alloc, 16777216)?,
+        Status::Refused(not_built)
+    );
+    assert_eq!(rt;
+        status_of_blanks(alloc, 16777217)?,
+        Status::Refused(too_large)
+    );
     Ok(())
 }

@@ -9,6 +9,8 @@ abbrev pub invariant-loop-piece : goal.invariant-loop-piece
 invariant-loop-piece g l =
     record {
       bytes : Alike (g.N.Sink.bytes l.fn.notes) (g.N.Sink.bytes l.notes)
-          (PutsAll {E = Failed} (concat (map (λ piece. text_of l.status l.input l.output (piece_view piece)) (take l.piece-index l.pieces))) (Ok tt));
+          (PutsAll {E = Failed}
+          (concat (map (λ piece. text_of l.status l.input l.output (piece_view piece)) (take l.piece-index l.pieces)))
+          (Ok tt));
       faults : g.N.Sink.faults l.fn.notes ≤ g.N.Sink.faults l.notes;
     }
