@@ -1,5 +1,4 @@
-// Stores and sinks that fail, and a file at the limit of its size.
-use erl_base::{Kind, Outside, Place, Refusal};
+// Stores and sinks that fail.
 use erlc_cli::{Status, run};
 use std::alloc::Global;
 use std::test::Fail;
@@ -117,38 +116,5 @@ fn a_failing_third_append_leaves_two_pieces(rt: HostRuntime) -> Result<(), Fail>
     assert_eq!(rt; status, Status::WriteFault);
     assert!(rt; notes.bytes() == "out.S: cannot be written\n".as_bytes());
     assert_eq!(rt; store.file("out.S").map(|asm| asm.len()), Some(8192));
-    Ok(())
-}
-
-/// The status of the call over a file of so many blanks.
-fn status_of_blanks(alloc: Global, number: usize) -> Result<Status, Fail> {
-    let text = vec![in alloc; b' '; number]?;
-    let mut store = MemoryStore::new(alloc);
-    store.add("in.core", text.as_slice())?;
-    let mut out = MemorySink::new(alloc);
-    let mut notes = MemorySink::new(alloc);
-    let words = words_of(alloc, "compile in.core out.S")?;
-    Ok(run(alloc, words.as_slice(), &mut store, &mut out, &mut notes))
-}
-
-#[test]
-fn a_file_has_a_limit(rt: HostRuntime) -> Result<(), Fail> {
-    let alloc = rt.alloc();
-    let not_built = Refusal {
-        kind: Kind::Profile(Outside::NotBuilt),
-        place: Place { line: 1, column: 1 },
-    };
-    let too_large = Refusal {
-        kind: Kind::TooLarge,
-        place: Place { line: 0, column: 0 },
-    };
-    assert_eq!(rt;
-        status_of_blanks(alloc, 16777216)?,
-        Status::Refused(not_built)
-    );
-    assert_eq!(rt;
-        status_of_blanks(alloc, 16777217)?,
-        Status::Refused(too_large)
-    );
     Ok(())
 }
