@@ -3,4 +3,5 @@ pub mod ActionView
 pub mod CompileAnswers
 pub mod Headline
 pub mod Answers
+pub mod Lines
 pub mod Notes

@@ -1,7 +1,6 @@
-ghost use Rattle.std.specs.Prelude.{◌≡◌, ◌⊎◌, ◌↔◌, ◌<◌, ℕ, List, None, length, take, drop};
-ghost use Rattle.store_io.specs.Files.{Alike};
+ghost use Rattle.std.specs.Prelude.{◌≡◌, ◌↔◌, ◌<◌, ℕ, List, None, length, take, drop};
 ghost use Rattle.erlc_cli.specs.ActionView.{asked};
-ghost use Rattle.erlc_cli.specs.Answers.{IsAnswer, Leaves, LacksFile, LacksRoomToWrite, IsRight, PutsOut, ReadsFailed, WritesFailed};
+ghost use Rattle.erlc_cli.specs.Answers.{IsAnswer, Leaves, LacksFile, LacksRoomToWrite, IsRight, PutsOut, CannotRead, WritesFailed};
 ghost use Rattle.erlc_cli.specs.Notes.{Noted, note_of};
 
 use crate::action::{Action, action_in};
@@ -28,14 +27,12 @@ pub fn run<S: Store, O: Sink, N: Sink>(
     ensures usage { (result ≡ Status.Usage) ↔ (asked words.now ≡ None) }
     ensures files { Leaves (asked words.now) result (S.told store.old) (S.told store.new) }
     ensures absent { LacksFile (asked words.now) (S.told store.old) → result ≡ Status.ReadFault }
-    ensures read { result ≡ Status.ReadFault
-        → ReadsFailed (S.told store.old) (S.told store.new) ⊎ LacksFile (asked words.now) (S.told store.old) }
+    ensures read { result ≡ Status.ReadFault → CannotRead (asked words.now) (S.told store.old) (S.told store.new) }
     ensures write { result ≡ Status.WriteFault → WritesFailed (S.told store.old) (S.told store.new) }
     ensures no_room { result ≡ Status.WriteFault → LacksRoomToWrite (asked words.now) (S.told store.old) }
     ensures headline { IsRight (asked words.now) result (S.told store.old) (S.told store.new) }
-    ensures out { PutsOut (asked words.now) (O.bytes out.old, O.faults out.old) (O.bytes out.new, O.faults out.new) }
-    ensures notes { Alike (N.bytes notes.old) (N.bytes notes.new)
-        (Noted (note_of (asked words.now) result) (N.faults notes.old) (N.faults notes.new)) }
+    ensures out { PutsOut O.bytes O.faults (asked words.now) out.old out.new }
+    ensures notes { Noted N.bytes N.faults (note_of (asked words.now) result) notes.old notes.new }
 {
     let _ = &out;
     match action_in(words) {
@@ -54,8 +51,7 @@ pub fn run<S: Store, O: Sink, N: Sink>(
 /// The answer where the words themselves could not be had for want of memory.
 pub fn run_without_words<N: Sink>(notes: &mut N) -> Status
     ensures status { result ≡ Status.NoMemory }
-    ensures notes { Alike (N.bytes notes.old) (N.bytes notes.new)
-        (Noted (note_of None result) (N.faults notes.old) (N.faults notes.new)) }
+    ensures notes { Noted N.bytes N.faults (note_of None result) notes.old notes.new }
 {
     note(notes, Status::NoMemory, "", "");
     Status::NoMemory

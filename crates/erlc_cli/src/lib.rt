@@ -15,11 +15,9 @@
 mod act;
 mod action;
 mod compile;
+mod line;
 mod notes;
 mod status;
 
 pub use act::{run, run_without_words};
 pub use status::Status;
-
-#[cfg(test)]
-mod tests;

@@ -50,6 +50,3 @@ pub fn compile(alloc: Global, bytes: &[u8]) -> Result<AsmModule, Fault>
     plain_modules_behave_the_same();
     Ok(made)
 }
-
-#[cfg(test)]
-mod tests;

@@ -1,6 +1,5 @@
-use crate::notes::note;
-use crate::{Status, run};
-use erl_base::{Kind, LimitName, Place, Refusal, ScopeFault};
+// Stores and sinks that fail.
+use erlc_cli::{Status, run};
 use std::alloc::Global;
 use std::test::Fail;
 use store_io::{CallNumbers, FaultySink, FaultyStore, MemorySink, MemoryStore};
@@ -117,43 +116,5 @@ fn a_failing_third_append_leaves_two_pieces(rt: HostRuntime) -> Result<(), Fail>
     assert_eq!(rt; status, Status::WriteFault);
     assert!(rt; notes.bytes() == "out.S: cannot be written\n".as_bytes());
     assert_eq!(rt; store.file("out.S").map(|asm| asm.len()), Some(8192));
-    Ok(())
-}
-
-#[test]
-fn lines_name_the_place_and_the_count(rt: HostRuntime) -> Result<(), Fail> {
-    let alloc = rt.alloc();
-    let place = Place {
-        line: 1,
-        column: 58,
-    };
-    let rows = [
-        (Kind::TooLarge, "in.core: larger than 16777216 bytes\n"),
-        (Kind::NotUtf8, "in.core:1:58: not UTF-8\n"),
-        (
-            Kind::Scope(ScopeFault::ClauseWidth),
-            "in.core:1:58: wrong clause width\n",
-        ),
-        (
-            Kind::Limit(LimitName::Integer, 39),
-            "in.core:1:58: integer literal of 39 digits\n",
-        ),
-        (
-            Kind::Limit(LimitName::Nodes, 20001),
-            "in.core:1:58: 20001 nodes\n",
-        ),
-        (
-            Kind::Limit(LimitName::Nesting, 2001),
-            "in.core:1:58: nesting 2001\n",
-        ),
-        (Kind::Script, "in.core: no script for this run\n"),
-    ];
-    for (kind, line) in rows.iter() {
-        let mut notes = MemorySink::new(alloc);
-        notes.reserve(100)?;
-        let status = Status::Refused(Refusal { kind: *kind, place });
-        note(&mut notes, status, "in.core", "out.S");
-        assert!(rt; notes.bytes() == line.as_bytes());
-    }
     Ok(())
 }
