@@ -151,8 +151,8 @@ abbrev pub erlang : String → List Expr → Expr
 erlang f es = call "erlang" f es
 
 -- a call of the outside without arguments
-abbrev pub ask : String → Expr
-ask f = call "p" f []
+abbrev pub asks : String → Expr
+asks f = call "p" f []
 
 -- `primop 'n' (..)`
 abbrev pub primop : String → List Expr → Expr
@@ -162,17 +162,19 @@ primop n es = C.primop p0 (codes n) (exprs es)
 abbrev pub same : Expr → Expr → Expr
 same x y = erlang "=:=" (x ∷ y ∷ [])
 
--- a map with pairs, without a base and with one
+-- a map of pairs, without a base
 abbrev pub new_map : List MapPart → Expr
 new_map ps = C.new_map p0 (parts ps)
 
+-- a map that puts pairs into a base
 abbrev pub map_with : List MapPart → Expr → Expr
 map_with ps e = C.map_of p0 (parts ps) e
 
--- `K => V` and `K := V`
+-- `K => V`
 abbrev pub puts : Expr → Expr → MapPart
 puts k e = C.map_part k e false
 
+-- `K := V`
 abbrev pub replaces : Expr → Expr → MapPart
 replaces k e = C.map_part k e true
 
@@ -183,8 +185,8 @@ abbrev pub any : String → Pattern
 any x = C.any p0 (codes x)
 
 -- a literal
-abbrev pub known : Term → Pattern
-known t = C.known p0 t
+abbrev pub literal_like : Term → Pattern
+literal_like t = C.known p0 t
 
 -- `X = P`
 abbrev pub alias : String → Pattern → Pattern
@@ -228,13 +230,15 @@ segment e size unit kind = C.segment p0 e size (int unit) (codes kind) big
 abbrev pub part_like : Pattern → Expr → ℕ → String → SegPattern
 part_like q size unit kind = C.seg_pattern p0 q size (int unit) (codes kind) big
 
--- a byte as a number, a byte as bits, and all bytes that are left
+-- a byte as a number
 abbrev pub byte_like : String → SegPattern
 byte_like x = part_like (any x) (i 8) 1 "integer"
 
+-- a byte as bits
 abbrev pub bits_byte : String → SegPattern
 bits_byte x = part_like (any x) (i 8) 1 "binary"
 
+-- all bytes that are left
 abbrev pub rest_like : String → SegPattern
 rest_like x = part_like (any x) (a "all") 8 "binary"
 
@@ -242,6 +246,7 @@ rest_like x = part_like (any x) (a "all") 8 "binary"
 abbrev pub binary : List Segment → Expr
 binary ss = C.binary p0 (segments ss)
 
+-- a pattern of segments
 abbrev pub bits_like : List SegPattern → Pattern
 bits_like ss = C.bits_like p0 (segs ss)
 
@@ -291,8 +296,8 @@ abbrev pub look : ℕ → Bool → Looked
 look n accepted = record { serial = n; accepted = accepted }
 
 -- what is seen of a call that receives nothing and makes no sub-binary
-abbrev pub run : List Happening → List Entry → Outcome Term → Result
-run hs es end = record { happenings = hs; entries = es; looks = []; marks = []; examined = []; subs = 0; end = end }
+abbrev pub shown : List Happening → List Entry → Outcome Term → Result
+shown hs es end = record { happenings = hs; entries = es; looks = []; marks = []; examined = []; subs = 0; end = end }
 
 -- a raise of class error with an atom
 abbrev pub fails : String → Outcome Term

@@ -10,10 +10,11 @@ use Rattle.core_meaning.specs.CoreRun.{evaluated}
 use Rattle.core_meaning.specs.FreshReferences.{occurs}
 use Rattle.core_examples.specs.Build.{i, v, erlang, same, let_in, do_then, receive, when, any, def, key, program, own_fun, int, atom, map_of, reply}
 
--- the reference that the examples wait for, and another one
+-- the reference that most examples wait for
 abbrev pub first : Term
 first = T.reference 3
 
+-- the other reference
 abbrev pub second : Term
 second = T.reference 4
 
@@ -25,12 +26,13 @@ await x = receive (when (any "M" ∷ []) (same (v "M") (v x)) (v "M") ∷ []) (i
 abbrev pub make_ref : Expr
 make_ref = erlang "make_ref" []
 
--- one reference that three receives wait for, and two, of which the first is waited for twice
-abbrev pub thrice : Expr
-thrice = let_in "R" make_ref (do_then (await "R") (do_then (await "R") (await "R")))
+-- one reference that three receives wait for
+abbrev pub with_one : Expr
+with_one = let_in "R" make_ref (do_then (await "R") (do_then (await "R") (await "R")))
 
-abbrev pub both : Expr
-both = let_in "R" make_ref (let_in "S" make_ref (do_then (await "R") (do_then (await "R") (await "S"))))
+-- two references, of which the first is waited for twice
+abbrev pub with_two : Expr
+with_two = let_in "R" make_ref (let_in "S" make_ref (do_then (await "R") (do_then (await "R") (await "S"))))
 
 -- the messages that a run examines, from a mailbox with a and b, where these replies and choices come
 abbrev pub examines : Expr → List Reply → List Bool → List ℕ
@@ -50,23 +52,24 @@ brings t = reply (t ∷ []) W.return t
 abbrev pub with_two_answers : List Reply
 with_two_answers = reply (first ∷ first ∷ []) W.return first ∷ brings second ∷ []
 
+-- which messages are examined
 pub record ReceiveMarkers : Type 0 where
   -- a reference that is kept stays bound: each receive examines nothing that came before it
-  pub kept : examines thrice (with_answers ∷ []) (true ∷ true ∷ []) ≡ 2 ∷ 3 ∷ 4 ∷ 3 ∷ 5 ∷ []
+  pub kept : examines with_one (with_answers ∷ []) (true ∷ true ∷ []) ≡ 2 ∷ 3 ∷ 4 ∷ 3 ∷ 5 ∷ []
   -- where no choice is left it is kept
-  pub kept_without_choice : examines thrice (with_answers ∷ []) [] ≡ 2 ∷ 3 ∷ 4 ∷ 3 ∷ 5 ∷ []
+  pub kept_without_choice : examines with_one (with_answers ∷ []) [] ≡ 2 ∷ 3 ∷ 4 ∷ 3 ∷ 5 ∷ []
   -- a forgotten one is bound no more, so that later receives examine all
-  pub forgotten : examines thrice (with_answers ∷ []) (true ∷ false ∷ true ∷ [])
+  pub forgotten : examines with_one (with_answers ∷ []) (true ∷ false ∷ true ∷ [])
       ≡ 2 ∷ 0 ∷ 1 ∷ 3 ∷ 4 ∷ 0 ∷ 1 ∷ 3 ∷ 5 ∷ []
   -- a receive whose reference is not bound takes no choice: the second `false` is that of the other reference
-  pub unbound_takes_no_choice : examines both with_two_answers (false ∷ false ∷ [])
+  pub unbound_takes_no_choice : examines with_two with_two_answers (false ∷ false ∷ [])
       ≡ 0 ∷ 1 ∷ 2 ∷ 0 ∷ 1 ∷ 3 ∷ 0 ∷ 1 ∷ 4 ∷ []
   -- what is forgotten of one reference leaves the other one bound
-  pub other_stays_bound : examines both with_two_answers (false ∷ true ∷ []) ≡ 0 ∷ 1 ∷ 2 ∷ 0 ∷ 1 ∷ 3 ∷ 4 ∷ []
+  pub other_stays_bound : examines with_two with_two_answers (false ∷ true ∷ []) ≡ 0 ∷ 1 ∷ 2 ∷ 0 ∷ 1 ∷ 3 ∷ 4 ∷ []
   -- a reference that is made again is bound to the later serial
-  pub bound_anew : examines both (brings first ∷ brings first ∷ []) [] ≡ 3 ∷ []
+  pub bound_anew : examines with_two (brings first ∷ brings first ∷ []) [] ≡ 3 ∷ []
   -- what is no reference is not bound
-  pub no_reference : examines thrice (reply (int 7 ∷ int 7 ∷ int 7 ∷ []) W.return (int 7) ∷ []) []
+  pub no_reference : examines with_one (reply (int 7 ∷ int 7 ∷ int 7 ∷ []) W.return (int 7) ∷ []) []
       ≡ 0 ∷ 1 ∷ 2 ∷ 0 ∷ 1 ∷ 3 ∷ 0 ∷ 1 ∷ 4 ∷ []
   -- a reference is found in what a fun captured, and in the keys and values of a map
   pub in_a_fun : occurs 3 (own_fun 0 0 (int 1 ∷ first ∷ [])) ≡ true

@@ -5,6 +5,7 @@ use Rattle.erl_term.specs.Term as T
 use Rattle.erl_term.specs.TermOrder.{compare}
 use Rattle.core_examples.specs.Build.{atom, int, list_term, tuple_of, map_of, bytes, own_fun}
 
+-- which of two terms comes first
 pub record TermsInOrder : Type 0 where
   -- lists go item by item, whatever their lengths
   pub lists_by_items : compare (list_term (int 2 ∷ [])) (list_term (int 1 ∷ int 1 ∷ [])) ≡ Greater
@@ -17,12 +18,12 @@ pub record TermsInOrder : Type 0 where
   pub nil_and_bits : compare T.nil (T.bits []) ≡ Less
   -- maps of one size go by all their keys, and then by their values
   pub maps_by_keys :
-      compare (map_of ((atom "a", int 2) ∷ (atom "b", int 1) ∷ [])) (map_of ((atom "a", int 1) ∷ (atom "c", int 1)
-      ∷ []))
+      compare (map_of ((atom "a", int 2) ∷ (atom "b", int 1) ∷ []))
+      (map_of ((atom "a", int 1) ∷ (atom "c", int 1) ∷ []))
       ≡ Less
   pub maps_by_values :
-      compare (map_of ((atom "a", int 2) ∷ (atom "b", int 1) ∷ [])) (map_of ((atom "a", int 1) ∷ (atom "b", int 2)
-      ∷ []))
+      compare (map_of ((atom "a", int 2) ∷ (atom "b", int 1) ∷ []))
+      (map_of ((atom "a", int 1) ∷ (atom "b", int 2) ∷ []))
       ≡ Greater
   pub maps_by_sizes : compare (map_of ((atom "b", int 1) ∷ [])) (map_of ((atom "a", int 1) ∷ (atom "c", int 1) ∷ []))
       ≡ Less

@@ -29,8 +29,8 @@ abbrev pub int : ℕ → Term
 int n = T.int (pos n)
 
 -- a tuple
-abbrev pub tuple_of : Values → Term
-tuple_of ts = T.tuple (terms ts)
+abbrev pub tuple_term : Values → Term
+tuple_term ts = T.tuple (terms ts)
 
 -- a proper list
 abbrev pub list_term : Values → Term
@@ -51,22 +51,27 @@ bytes ns = T.bits (byte_row ns)
 
 -- Operands.
 
--- the first registers, and the first slots
+-- the first X register
 abbrev pub x0 : Reg
 x0 = C.x_reg 0
 
+-- the second X register
 abbrev pub x1 : Reg
 x1 = C.x_reg 1
 
+-- the third X register
 abbrev pub x2 : Reg
 x2 = C.x_reg 2
 
+-- the fourth
 abbrev pub x3 : Reg
 x3 = C.x_reg 3
 
+-- the first slot
 abbrev pub y0 : Reg
 y0 = C.y_reg 0
 
+-- the second slot
 abbrev pub y1 : Reg
 y1 = C.y_reg 1
 
@@ -74,23 +79,25 @@ y1 = C.y_reg 1
 abbrev pub r : Reg → Source
 r = C.reg
 
--- an atom, and a number
+-- an atom that is read
 abbrev pub a : String → Source
 a w = C.atom (codes w)
 
+-- a number that is read
 abbrev pub i : ℕ → Source
 i n = C.integer (pos n)
 
--- a function of module p, and one of the module erlang
+-- a function of module p
 abbrev pub outside : String → ℕ → Extern
 outside f n = record { mod_name = codes "p"; name = codes f; arity = n }
 
+-- a function of the module erlang
 abbrev pub erl : String → ℕ → Extern
 erl f n = record { mod_name = codes "erlang"; name = codes f; arity = n }
 
 -- unsigned and big
-abbrev pub plain : Flags
-plain = record { signed = false; little = false }
+abbrev pub unsigned_big : Flags
+unsigned_big = record { signed = false; little = false }
 
 -- Modules, whose functions have the labels 1 and 2, 3 and 4, ..
 
@@ -110,8 +117,8 @@ abbrev pub script : Values → List Reply → Script
 script ms rs = record { own = T.pid 1; mailbox = ms; replies = rs; choices = [] }
 
 -- nothing comes, and nothing is asked
-abbrev pub alone : Script
-alone = script [] []
+abbrev pub unasked : Script
+unasked = script [] []
 
 -- replies alone
 abbrev pub replies : List Reply → Script
@@ -131,20 +138,23 @@ back t = reply [] W.return t
 abbrev pub steps : ℕ → List Insn → List (FunKey × List Insn) → Values → Script → Ran
 steps k is fs ts s = asm_run (module_of ((key "f" (length ts), is) ∷ fs)) (key "f" (length ts)) ts s k
 
--- a run of a function that is alone in its module, and how it ends where nothing is asked
+-- a run of a function that is alone in its module
 abbrev pub runs : List Insn → Values → Script → Ran
 runs is ts s = steps 40 is [] ts s
 
+-- how a run ends where nothing is asked
 abbrev pub end_of : List Insn → Values → End
-end_of is ts = (runs is ts alone).end
+end_of is ts = (runs is ts unasked).end
 
--- ends
+-- a value ends a run
 abbrev pub returns : Term → End
 returns t = over (gives t)
 
+-- a raise of class error ends a run
 abbrev pub fails : Term → End
 fails t = over (raises T.error t)
 
+-- a request without a reply ends a run
 abbrev pub asks_for : W.Request → End
 asks_for q = over (waits q)
 

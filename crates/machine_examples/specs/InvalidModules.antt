@@ -6,7 +6,7 @@ use Rattle.bif_table.specs.Builtins.{Add, Element, Error1}
 use Rattle.beam_table.specs.Code as C
 use Rattle.beam_table.specs.Code.{Insn, func_info, label, move, return, jump, call_only, call_ext_only, bif, gc_bif, bs_create_bin, AsmModule}
 use Rattle.beam_table.specs.ValidModule.{Valid}
-use Rattle.machine_examples.specs.Build.{key, int, map_of, x0, r, i, outside, plain, module_of}
+use Rattle.machine_examples.specs.Build.{key, int, map_of, x0, r, i, outside, unsigned_big, module_of}
 
 -- module m with f/1, which has this code, and g/1, whose labels are 3 and 4
 abbrev pub two_functions : List Insn → AsmModule
@@ -26,7 +26,7 @@ in_units n = bs_create_bin None 1 1 x0 (record {
   is_binary = false;
   number = 0;
   unit = n;
-  flags = plain;
+  flags = unsigned_big;
   value = r x0;
   size = i 8;
 } ∷ [])
@@ -35,6 +35,7 @@ in_units n = bs_create_bin None 1 1 x0 (record {
 abbrev pub Refused : Insn → Type 0
 Refused j = Valid (two_functions (j ∷ return ∷ [])) → ⊥
 
+-- what makes a module invalid
 pub record InvalidModules : Type 0 where
   -- a valid module
   pub valid : Valid (exporting (key "f" 1 ∷ key "g" 1 ∷ []))

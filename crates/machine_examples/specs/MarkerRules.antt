@@ -18,10 +18,11 @@ looks_at is cs =
     serials (runs (recv_marker_reserve x2 ∷ recv_marker_bind x2 (r x1) ∷ is)
     (T.reference 3 ∷ T.reference 4 ∷ []) (choosing cs)).log
 
--- a receive that waits for the first reference, and one for the second
+-- a receive that waits for the first reference
 abbrev pub first : Insn
 first = recv_marker_use (r x0)
 
+-- a receive that waits for the second reference
 abbrev pub second : Insn
 second = recv_marker_use (r x1)
 
@@ -45,6 +46,7 @@ bound_twice =
     allocate 1 1 ∷ move (r x0) y0 ∷ recv_marker_reserve x1 ∷ recv_marker_bind x1 (r y0) ∷ call_ext 0 (outside "g" 0)
     ∷ recv_marker_reserve x1 ∷ recv_marker_bind x1 (r y0) ∷ recv_marker_use (r y0) ∷ look
 
+-- where a receive begins that waits for a reference
 pub record MarkerRules : Type 0 where
   -- a marker holds the serial of the next message, however many the mailbox has
   pub next_serial : serials (runs behind_a_taken_one (T.reference 3 ∷ []) (choosing [])).log ≡ 0 ∷ []

@@ -7,8 +7,8 @@ use Rattle.bif_table.specs.TermTests.{is_eq_exact}
 use Rattle.machine_examples.specs.Build.{atom, x0, r, a, i, script, back, runs, returns}
 
 -- the messages that a run examined, the latest first, and how it ended
-abbrev pub examined : Ran → List ℕ × End
-examined s = (serials s.log, s.end)
+abbrev pub looks_and_end : Ran → List ℕ × End
+looks_and_end s = (serials s.log, s.end)
 
 -- the reply to a look that brings nothing
 abbrev pub nothing_came : W.Reply
@@ -32,13 +32,14 @@ takes_after_raise =
     allocate 1 0 ∷ try 0 6 ∷ label 3 ∷ loop_rec 5 0 ∷ loop_rec_end 3 ∷ label 5 ∷ wait_timeout 3 (a "bad")
     ∷ label 6 ∷ try_case 0 ∷ loop_rec 7 0 ∷ remove_message ∷ deallocate 1 ∷ return ∷ label 7 ∷ if_end ∷ []
 
+-- what brings the save place to the start
 pub record ReceivePlaces : Type 0 where
   -- a message that is taken brings the save place to the start
-  pub after_a_message : examined (runs takes_b [] (script (atom "a" ∷ atom "b" ∷ []) []))
+  pub after_a_message : looks_and_end (runs takes_b [] (script (atom "a" ∷ atom "b" ∷ []) []))
       ≡ (0 ∷ 1 ∷ 0 ∷ [], returns (atom "a"))
   -- so does a timeout
-  pub after_a_timeout : examined (runs takes_after_timeout [] (script (atom "a" ∷ []) (nothing_came ∷ [])))
+  pub after_a_timeout : looks_and_end (runs takes_after_timeout [] (script (atom "a" ∷ []) (nothing_came ∷ [])))
       ≡ (0 ∷ 0 ∷ [], returns (atom "a"))
   -- and the raise of a wrong one
-  pub after_a_wrong_timeout : examined (runs takes_after_raise [] (script (atom "a" ∷ []) (nothing_came ∷ [])))
+  pub after_a_wrong_timeout : looks_and_end (runs takes_after_raise [] (script (atom "a" ∷ []) (nothing_came ∷ [])))
       ≡ (0 ∷ 0 ∷ [], returns (atom "a"))

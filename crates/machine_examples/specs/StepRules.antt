@@ -3,6 +3,7 @@ use Rattle.std.specs.Prelude.{◌≡◌, [], ◌∷◌}
 use Rattle.beam_table.specs.Code.{label, return, jump, get_list, get_map_elements}
 use Rattle.machine_examples.specs.Build.{atom, int, list_term, map_of, x0, r, a, end_of, returns}
 
+-- labels, and the order of two writes
 pub record StepRules : Type 0 where
   -- all labels before an instruction are passed
   pub labels : end_of (label 3 ∷ label 4 ∷ label 5 ∷ return ∷ []) (int 1 ∷ []) ≡ returns (int 1)
