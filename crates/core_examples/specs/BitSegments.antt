@@ -1,5 +1,5 @@
 -- Segments of bit strings, built and matched (OTP 25, bit syntax).
-use Rattle.std.specs.Prelude.{◌≡◌, List, [], ◌∷◌, ◌++◌, true, codes}
+use Rattle.std.specs.Prelude.{◌≡◌, List, [], ◌∷◌, ◌++◌, codes}
 use Rattle.erl_term.specs.BitString.{bits_of}
 use Rattle.erl_term.specs.Term as T
 use Rattle.erl_term.specs.Term.{Term}
@@ -7,7 +7,7 @@ use Rattle.world_model.specs.Run.{gives}
 use Rattle.core_form.specs.Core as C
 use Rattle.core_form.specs.Core.{Expr, Segment, SegPattern}
 use Rattle.core_meaning.specs.CoreRun.{Result}
-use Rattle.core_examples.specs.Build.{p0, i, v, a, binary, segment, bits_like, part_like, case, clause, any, int, atom, list_term, bytes, byte_row, runs, shown, alone, fails}
+use Rattle.core_examples.specs.Build.{nine_bits, p0, i, v, a, binary, segment, bits_like, part_like, case, clause, any, int, atom, list_term, bytes, runs, shown, alone, fails}
 
 -- '#{..}#' with X
 abbrev pub builds : List Segment → Term → Result
@@ -17,10 +17,6 @@ builds ss t = runs ("X" ∷ []) (binary ss) [] (t ∷ []) alone
 abbrev pub taken_apart : List SegPattern → Term → Result
 taken_apart ss t =
     runs ("X" ∷ []) (case (v "X") (clause (bits_like ss) (v "A") ∷ clause (any "Y") (a "no") ∷ [])) [] (t ∷ []) alone
-
--- 9 bits
-abbrev pub nine_bits : Term
-nine_bits = T.bits (true ∷ byte_row (1 ∷ []))
 
 -- a number of 3 times 4 bits, the lowest byte first
 abbrev pub little_number : Segment

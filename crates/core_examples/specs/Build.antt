@@ -64,6 +64,10 @@ byte_row (n ∷ ns) = bits_of 8 n ++ byte_row ns
 abbrev pub bytes : List ℕ → Term
 bytes ns = T.bits (byte_row ns)
 
+-- 9 bits
+abbrev pub nine_bits : Term
+nine_bits = T.bits (true ∷ byte_row (1 ∷ []))
+
 -- a function that module m made
 abbrev pub own_fun : ℕ → ℕ → Values → Term
 own_fun site n ts = T.fun (codes "m") site n (terms ts)
@@ -250,6 +254,10 @@ binary ss = C.binary p0 (segments ss)
 abbrev pub bits_like : List SegPattern → Pattern
 bits_like ss = C.bits_like p0 (segs ss)
 
+-- #{V, R}#, where V is the first byte as a number, and R the rest
+abbrev pub byte_and_rest : Pattern
+byte_and_rest = bits_like (byte_like "V" ∷ rest_like "R" ∷ [])
+
 -- Modules and scripts.
 
 -- `'f'/n = fun (X, ..) -> E`
@@ -306,6 +314,12 @@ fails w = raises T.error (atom w)
 -- a raise of class error with a tagged term
 abbrev pub fails_with : String → Term → Outcome Term
 fails_with w t = raises T.error (tuple_of (atom w ∷ t ∷ []))
+
+-- A loop over the bytes of a binary, which hands each rest on to itself: its parameter is taken apart.
+abbrev pub taker : Def
+taker =
+    def "tk" ("B" ∷ []) (case (v "B")
+    (clause byte_and_rest (local "tk" (v "R" ∷ [])) ∷ clause (any "_0") (a "end") ∷ []))
 
 -- A call of the first function of module m, f with these parameters and this body, before these other functions.
 abbrev pub runs : List String → Expr → List Def → Values → Script → Result

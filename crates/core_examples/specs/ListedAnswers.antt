@@ -1,11 +1,11 @@
 -- What listed functions of the module erlang answer (OTP 25, module erlang).
 use Prim.Native.String.{String}
-use Rattle.std.specs.Prelude.{◌≡◌, [], ◌∷◌, length, true, Option, Some, option_map, codes}
+use Rattle.std.specs.Prelude.{◌≡◌, [], ◌∷◌, length, Option, Some, option_map, codes}
 use Rattle.erl_term.specs.Term as T
 use Rattle.erl_term.specs.Term.{Term}
 use Rattle.erl_term.specs.Terms.{Values}
 use Rattle.bif_table.specs.BuiltinAnswer.{Answer, value, raised, lookup, answer}
-use Rattle.core_examples.specs.Build.{atom, int, below_zero, tuple_of, byte_row, own_fun}
+use Rattle.core_examples.specs.Build.{nine_bits, atom, int, below_zero, tuple_of, own_fun}
 
 -- the answer of the listed function of this name, in process 1; none where it is not listed
 abbrev pub listed_answer : String → Values → Option Answer
@@ -42,10 +42,6 @@ external = T.extern (codes "m") (codes "f") 2
 -- {a,1,2}
 abbrev pub record_a : Term
 record_a = tuple_of (atom "a" ∷ int 1 ∷ int 2 ∷ [])
-
--- 9 bits
-abbrev pub nine_bits : Term
-nine_bits = T.bits (true ∷ byte_row (1 ∷ []))
 
 -- what functions answer
 pub record ListedAnswers : Type 0 where

@@ -4,7 +4,7 @@ use Rattle.erl_term.specs.Term.{Term}
 use Rattle.world_model.specs.Run.{Outcome, gives}
 use Rattle.core_form.specs.Core.{Expr, Pattern, Clause, Def}
 use Rattle.core_meaning.specs.CoreRun.{Result}
-use Rattle.core_examples.specs.Build.{i, v, a, apply, name_of, local, primop, erlang, same, values, tuple, let_in, do_then, case, clause, when, yes, any, literal_like, alias, tuple_like, bits_like, part_like, byte_like, bits_byte, rest_like, def, own_fun, int, atom, tuple_of, list_term, bytes, runs, script, alone, back, fails_with}
+use Rattle.core_examples.specs.Build.{i, v, a, apply, name_of, local, primop, erlang, same, values, tuple, let_in, do_then, case, clause, when, yes, any, literal_like, alias, tuple_like, bits_like, part_like, byte_like, bits_byte, rest_like, byte_and_rest, taker, def, own_fun, int, atom, tuple_of, list_term, bytes, runs, script, alone, back, fails_with}
 
 -- how many sub-binaries a call of f may make, and how it ends
 abbrev pub made : Result → ℕ × Outcome Term
@@ -18,11 +18,7 @@ tried cs ds t = made (runs ("B" ∷ []) (case (v "B") cs) ds (t ∷ []) alone)
 abbrev pub three_bytes : Term
 three_bytes = bytes (1 ∷ 2 ∷ 3 ∷ [])
 
--- #{V, R}#, where V is the first byte as a number, and R the rest
-abbrev pub byte_and_rest : Pattern
-byte_and_rest = bits_like (byte_like "V" ∷ rest_like "R" ∷ [])
-
--- the same with the first byte as bits
+-- #{V, R}#, where V is the first byte as bits
 abbrev pub bits_and_rest : Pattern
 bits_and_rest = bits_like (bits_byte "V" ∷ rest_like "R" ∷ [])
 
@@ -30,12 +26,7 @@ bits_and_rest = bits_like (bits_byte "V" ∷ rest_like "R" ∷ [])
 abbrev pub first_byte : Expr → Clause
 first_byte e = clause byte_and_rest e
 
--- a loop over the bytes of a binary, which hands each rest on to itself
-abbrev pub taker : Def
-taker =
-    def "tk" ("B" ∷ []) (case (v "B") (first_byte (local "tk" (v "R" ∷ [])) ∷ clause (any "_0") (a "end") ∷ []))
-
--- a call of it with the rest
+-- a call of the function that takes a rest apart
 abbrev pub hands_on : Expr
 hands_on = local "tk" (v "R" ∷ [])
 

@@ -5,7 +5,7 @@ use Rattle.world_model.specs.World.{Reply, asked, millis}
 use Rattle.world_model.specs.Run.{Entry, gives}
 use Rattle.core_form.specs.Core.{Expr, Def}
 use Rattle.core_meaning.specs.CoreRun.{Result}
-use Rattle.core_examples.specs.Build.{i, v, a, asks, local, case, do_then, catch, try, receive, clause, when, any, literal_like, bits_like, byte_like, rest_like, def, int, atom, bytes, runs, shown, script, alone, reply, nothing_came, called, entry}
+use Rattle.core_examples.specs.Build.{i, v, asks, local, case, do_then, catch, try, receive, clause, when, any, literal_like, byte_and_rest, taker, def, int, atom, bytes, runs, shown, script, alone, reply, nothing_came, called, entry}
 
 -- 'g'/0 = fun () -> 3, at site 1
 abbrev pub g : Def
@@ -22,13 +22,6 @@ in_body e rs = runs [] e (g ∷ []) [] (script [] rs)
 -- a call out of tail position, and then one in it
 abbrev pub inner_then_tail : List Entry
 inner_then_tail = entry 1 false ∷ entry 1 true ∷ []
-
--- a function that hands the rest of its binary on to itself
-abbrev pub taker : Def
-taker =
-    def "tk" ("B" ∷ []) (case (v "B")
-    (clause (bits_like (byte_like "V" ∷ rest_like "R" ∷ [])) (local "tk" (v "R" ∷ []))
-    ∷ clause (any "_0") (a "end") ∷ []))
 
 -- a throw in place of the answer of a call
 abbrev pub thrown : Reply
@@ -56,7 +49,7 @@ pub record TailMarks : Type 0 where
   pub of_guard :
       runs ("X" ∷ []) (case (v "X")
       (when (any "Y" ∷ [])
-      (case (v "Y") (clause (bits_like (byte_like "V" ∷ rest_like "R" ∷ [])) (local "tk" (v "R" ∷ [])) ∷ []))
+      (case (v "Y") (clause byte_and_rest (local "tk" (v "R" ∷ [])) ∷ []))
       (i 1)
       ∷ clause (any "Z") (i 2) ∷ [])) (taker ∷ []) (bytes (1 ∷ 2 ∷ []) ∷ []) alone
       ≡ record (shown [] [] (gives (int 2))) { subs = 1 }
