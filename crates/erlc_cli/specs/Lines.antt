@@ -94,9 +94,9 @@ pieces_of Unfinished = input ∷ text (codes ": not ended\n") ∷ []
 pieces_of Beyond = input ∷ text (codes ": value out of range\n") ∷ []
 
 -- the place that a status names: line 0 and column 0 where it names none
-abbrev pub place_of : Status → Place
-place_of (Refused refusal) = refusal.place
-place_of status = record { line = 0; column = 0 }
+abbrev pub named_place : Status → Place
+named_place (Refused refusal) = refusal.place
+named_place status = record { line = 0; column = 0 }
 
 -- the count that passed a limit, 0 where the refusal is of another kind
 abbrev pub passed_by : Kind → ℕ
@@ -104,18 +104,18 @@ passed_by (Limit name passed) = passed
 passed_by kind = 0
 
 -- the count that a status names, 0 where it names none
-abbrev pub count_of : Status → ℕ
-count_of (Refused refusal) = passed_by refusal.kind
-count_of status = 0
+abbrev pub named_count : Status → ℕ
+named_count (Refused refusal) = passed_by refusal.kind
+named_count status = 0
 
 -- the text of a piece, for a status of an action that reads the one file and writes the other
 abbrev pub text_of : Status → List ℕ → List ℕ → Piece → List ℕ
 text_of status in_name out_name (text words) = words
 text_of status in_name out_name input = in_name
 text_of status in_name out_name output = out_name
-text_of status in_name out_name line = decimal (place_of status).line
-text_of status in_name out_name column = decimal (place_of status).column
-text_of status in_name out_name count = decimal (count_of status)
+text_of status in_name out_name line = decimal (named_place status).line
+text_of status in_name out_name column = decimal (named_place status).column
+text_of status in_name out_name count = decimal (named_count status)
 
 -- the line of a status
 abbrev pub line_of : Status → List ℕ → List ℕ → List ℕ

@@ -3,7 +3,7 @@ ghost use Rattle.std.specs.Prelude.{◌≡◌, ◌≤◌, OnErr, map};
 ghost use Rattle.std.specs.List.{concat};
 ghost use Rattle.store_io.specs.Causes.{Rose};
 ghost use Rattle.store_io.specs.Files.{Alike, PutsAll};
-ghost use Rattle.erlc_cli.specs.Lines.{line_of, text_of, place_of, count_of, passed_by, piece_view};
+ghost use Rattle.erlc_cli.specs.Lines.{line_of, text_of, named_place, named_count, passed_by, piece_view};
 ghost use Rattle.erlc_cli.specs.Notes.{Noted};
 
 use crate::line::{Piece, pieces_of};
@@ -53,15 +53,15 @@ fn bytes_of<'a>(
         Piece::Text(words) => words.as_bytes(),
         Piece::Input => input.as_bytes(),
         Piece::Output => output.as_bytes(),
-        Piece::Line => digits.format(place_of(status).line).as_bytes(),
-        Piece::Column => digits.format(place_of(status).column).as_bytes(),
-        Piece::Count => digits.format(count_of(status)).as_bytes(),
+        Piece::Line => digits.format(named_place(status).line).as_bytes(),
+        Piece::Column => digits.format(named_place(status).column).as_bytes(),
+        Piece::Count => digits.format(named_count(status)).as_bytes(),
     }
 }
 
 /// The place that a status names: 0, 0 where it names none.
-fn place_of(status: &Status) -> Place
-    ensures { result ≡ place_of status.now }
+fn named_place(status: &Status) -> Place
+    ensures { result ≡ named_place status.now }
 {
     match status {
         Status::Refused(refusal) => refusal.place,
@@ -77,8 +77,8 @@ fn place_of(status: &Status) -> Place
 }
 
 /// The count that a status names, 0 where it names none.
-fn count_of(status: &Status) -> u64
-    ensures { result ≡ count_of status.now }
+fn named_count(status: &Status) -> u64
+    ensures { result ≡ named_count status.now }
 {
     match status {
         Status::Refused(refusal) => passed_by(refusal.kind),
