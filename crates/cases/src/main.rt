@@ -1,15 +1,16 @@
 //! Cases: what the crates make of texts, row by row of a table, in one fixed form.
 //!
-//! A kind of cases is a file of rows in `data/` and a module that shows one row. Its output is the rows, and below each,
-//! set in, what came out; the stored output is what must come:
+//! A kind of cases is a file of rows in `data/` and a module that shows one row. Its output is the rows, and below
+//! each, set in, what came out; the stored output is what must come:
 //!
 //! ```text
 //! {a,b|1}
 //!     refused at 1:1
 //! ```
 //!
-//! In a text of a row `~` and two hexadecimal digits write a byte, and any other `~` nothing, so that `~` alone is the
-//! empty text. A line that begins with `##` is a heading. What is expected comes from outside and never from the program.
+//! In a text of a row `~` and two hexadecimal digits write a byte, and any other `~` nothing, so that `~` alone is
+//! the empty text. A line that begins with `##` is a heading. What is expected comes from outside and never from the
+//! program.
 #![tactic(auto)]
 
 mod calls;

@@ -17,7 +17,8 @@ mod leaves;
 mod lexemes;
 mod lists;
 mod read;
-mod reader;mod unread;
+mod reader;
+mod unread;
 
 pub use flat::{FunHead, Part};
 pub use laws::{printed_terms_are_read, reading_decides_the_grammar, text_has_one_term};
