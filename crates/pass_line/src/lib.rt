@@ -19,7 +19,7 @@ ghost use Rattle.pass_line.specs.CompileCorrect.{IsCorrect};
 ghost use Rattle.pass_line.specs.Compiled.{HasCode, IsNotBuilt};
 
 mod code;
-mod keys;
+mod names;
 mod plain;
 mod reader;
 mod text;
