@@ -5,4 +5,5 @@ use Rattle.key_set.proofs.KeySet.contains.Goals as goal
 
 pub returns : goal.returns
 returns c =
-    c.contains.ensures ∙ list_any-key_eq c.args.key.now c.self.inside.set.keys ∙ ap (is_key c.args.key.now) c.self.view_is
+    c.contains.ensures ∙ list_any-key_eq c.args.key.now c.self.inside.set.keys
+    ∙ ap (is_key c.args.key.now) c.self.view_is
