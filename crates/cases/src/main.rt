@@ -14,6 +14,7 @@
 #![tactic(auto)]
 
 mod calls;
+mod forms;
 mod print;
 mod row;
 mod terms;
@@ -26,6 +27,7 @@ use std::test::Fail;
 enum Kind {
     Tokens,
     Terms,
+    Forms,
     Print,
     Calls,
 }
@@ -34,6 +36,7 @@ fn show(rt: &HostRuntime, kind: Kind, row: &str) -> Result<(), Fail> {
     match kind {
         Kind::Tokens => tokens::show(rt, row),
         Kind::Terms => terms::show(rt, row),
+        Kind::Forms => forms::show(rt, row),
         Kind::Print => print::show(rt, row),
         Kind::Calls => calls::show(rt, row),
     }
@@ -53,6 +56,7 @@ fn show_all(rt: &HostRuntime, kind: Kind, rows: &str) -> Result<(), Fail> {
 fn main(rt: HostRuntime) -> Result<(), Fail> {
     show_all(&rt, Kind::Tokens, "tokens.rows")?;
     show_all(&rt, Kind::Terms, "terms.rows")?;
+    show_all(&rt, Kind::Forms, "forms.rows")?;
     show_all(&rt, Kind::Print, "print.rows")?;
     show_all(&rt, Kind::Calls, "calls.rows")
 }

@@ -6,7 +6,7 @@ ghost use Rattle.core_form.specs.View.{view, def_view, defs, module_view};
 ghost use Rattle.erl_term.specs.Ranges.{is_within_128};
 ghost use Rattle.pass_line.specs.PlainModule.{is_plain_atom, is_bound, are_distinct, is_plain_literal, is_plain_body, is_plain_def, are_plain, keys_of, are_new, are_known, IsPlain};
 
-use crate::names::characters_of;
+use crate::spelling::characters_of;
 use core_form::{Binder, Def, Expr, ExprForm, FunName, Module};
 use erl_base::{Name, NoMemory};
 use erl_term::Term;
