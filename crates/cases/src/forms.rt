@@ -1,4 +1,4 @@
-// A row is a text of forms. What is shown is each form, behind the number of characters that stand before it, and then the
+// A row is a text of forms. What is shown is each form, behind the number of characters before it, and then the
 // place where the text is no form, if there is one.
 use crate::row::bytes_of;
 use form_read::{form_start, next_form, place_at};
