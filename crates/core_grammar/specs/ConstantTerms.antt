@@ -1,13 +1,13 @@
 -- The term of what is one constant: all its parts are constants, annotations aside.
-use Rattle.std.specs.Prelude.{ℕ, ◌*◌, ℤ, pos, List, [], ◌∷◌, Bool, true, false, ◌&&◌, leb, if◌then◌else◌, Option, None, Some, codes}
-use Rattle.erl_base.specs.Names.{Name, same_name}
+use Rattle.std.specs.Prelude.{ℕ, ◌*◌, ℤ, pos, List, [], ◌∷◌, Bool, false, ◌&&◌, leb, if◌then◌else◌, Option, None, Some, codes}
+use Rattle.erl_base.specs.Names.{same_name}
 use Rattle.erl_term.specs.Term as T
 use Rattle.erl_term.specs.Term.{Term}
 use Rattle.erl_term.specs.Terms.{terms, list_of, put_all}
 use Rattle.erl_term.specs.BitString.{low_bits, ordered}
 use Rattle.erl_term.specs.Segments.{joined, has_flag}
 use Rattle.core_form.specs.SourceTree.{are_flags}
-use Rattle.core_grammar.specs.WrittenTree.{Tree, variable, atom, number, wide, float, character, string, function_name, external, noted, alias, list, list_on, tuple, values, new_map, map_on, binary, fun, let_in, letrec, case, apply, call, primop, do_then, catch, try, receive, Row, none, more, Pairs, no_pair, pair, Segment, segment, noted_segment, Segments, no_segment, and_segment}
+use Rattle.core_grammar.specs.WrittenTree.{Tree, variable, atom, number, wide, float, character, string, function_name, external, noted, list, list_on, tuple, new_map, binary, Row, none, more, Pairs, no_pair, pair, Segment, segment, noted_segment, Segments, no_segment, and_segment}
 
 -- the characters of a string as items
 abbrev pub character_terms : List ℕ → List Term

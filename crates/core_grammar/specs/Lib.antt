@@ -4,3 +4,4 @@ pub mod Signs
 pub mod ConstantTerms
 pub mod ModuleOf
 pub mod Texts
+pub mod Examples

@@ -1,25 +1,24 @@
 -- The module that a written one stands for. Annotations are dropped, what is one constant is one literal, and a list
 -- in the tail of a list is the same list.
-use Rattle.std.specs.Prelude.{ℕ, ◌<◌, ltb, pos, List, [], ◌∷◌, length, Bool, true, false, Option, None, Some, if◌then◌else◌}
+use Rattle.std.specs.Prelude.{ℕ, ltb, pos, List, [], ◌∷◌, length, true, false, Option, None, Some, if◌then◌else◌}
 use Rattle.erl_base.specs.Names.{Name}
 use Rattle.erl_base.specs.declared.ids.Place.{Place}
 use Rattle.erl_base.specs.declared.ids.FunKey.{FunKey}
 use Rattle.erl_term.specs.Term as T
 use Rattle.erl_term.specs.Term.{Term}
-use Rattle.core_lex.specs.declared.token.TokenKind.{TokenKind}
 use Rattle.core_lex.specs.declared.token.TokenKind.TheVariants.{Atom, Wide, Float}
 use Rattle.core_form.specs.declared.tree.Binder.{Binder}
 use Rattle.core_form.specs.declared.module.FunName.{FunName}
 use Rattle.core_form.specs.Core as C
-use Rattle.core_grammar.specs.WrittenTree.{Spelled, Tree, variable, atom, number, wide, float, character, string, function_name, external, noted, alias, list, list_on, tuple, values, new_map, map_on, binary, fun, let_in, letrec, case, apply, call, primop, do_then, catch, try, receive, Row, none, more, Group, single, angled, Pairs, no_pair, pair, Segment, segment, noted_segment, Segments, no_segment, and_segment, Clause, clause, noted_clause, Clauses, no_clause, and_clause, Definitions, no_definition, definition, Attributes, no_attribute, attribute, Written, plain_module, noted_module, place_of}
-use Rattle.core_grammar.specs.ConstantTerms.{constant_of, integer_value}
-use Rattle.core_grammar.specs.Signs.{Sight, of_kind, at_place, an_arity, Sign, signs_outside_notes}
+use Rattle.core_grammar.specs.WrittenTree.{Tree, variable, atom, number, wide, float, character, string, function_name, external, noted, alias, list, list_on, tuple, values, new_map, map_on, binary, fun, let_in, letrec, case, apply, call, primop, do_then, catch, try, receive, Row, none, more, Group, single, angled, Pairs, no_pair, pair, Segment, segment, noted_segment, Segments, no_segment, and_segment, Clause, clause, noted_clause, Clauses, no_clause, and_clause, Definitions, no_definition, definition, Attributes, no_attribute, attribute, Written, plain_module, noted_module, first_place}
+use Rattle.core_grammar.specs.ConstantTerms.{constant_of}
+use Rattle.core_grammar.specs.Signs.{Sight, at_place, Sign, signs_outside_notes}
 
 -- the place of a node: its first token inside all its annotations
 abbrev pub inner_place : Tree → Place
 inner_place (noted p t n) = inner_place t
 inner_place (alias x t) = inner_place x
-inner_place t = place_of t
+inner_place t = first_place t
 
 -- the variable, annotations aside; nothing else is asked for its name
 abbrev pub variable_name : Tree → Name
@@ -141,7 +140,8 @@ abbrev mutual
   tail_items (list_on p t ts u) = C.and_expr (expr_of t) (exprs_of ts (tail_items u))
   tail_items _ = C.no_expr
 
-  -- what is left of it, read as an expression, as the tail of a list at a place; an empty one stands where the list does
+  -- what is left of it, which is read as this expression, as the tail of a list at a place; an empty tail stands where
+  -- its list does
   pub rest_of : Place → Tree → (read : C.Expr) → C.Expr
   rest_of p (noted q t n) e = rest_of p t e
   rest_of p (string q cs) e = C.literal p T.nil
@@ -167,7 +167,8 @@ abbrev mutual
 
   -- a clause, at the place of its first token inside its own annotations
   pub clause_of : Clause → C.Clause
-  clause_of (clause (single t) u v) = C.clause (place_of t) (C.and_pattern (pattern_of t) C.no_pattern) (expr_of u) (expr_of v)
+  clause_of (clause (single t) u v) =
+      C.clause (first_place t) (C.and_pattern (pattern_of t) C.no_pattern) (expr_of u) (expr_of v)
   clause_of (clause (angled p ts) u v) = C.clause p (patterns_of ts C.no_pattern) (expr_of u) (expr_of v)
   clause_of (noted_clause c n) = clause_of c
 
@@ -190,11 +191,12 @@ abbrev mutual
       known_or p (constant_of true (list p ts)) (C.list_like p (patterns_of ts C.no_pattern) (C.known p T.nil))
   pattern_of (list_on p t ts u) =
       known_or p (constant_of true (list_on p t ts u))
-      (C.list_like p (C.and_pattern (pattern_of t) (patterns_of ts (tail_patterns u))) (rest_pattern p u (pattern_of u)))
+      (C.list_like p (C.and_pattern (pattern_of t) (patterns_of ts (tail_patterns u)))
+      (rest_pattern p u (pattern_of u)))
   pattern_of (tuple p ts) = known_or p (constant_of true (tuple p ts)) (C.tuple_like p (patterns_of ts C.no_pattern))
   pattern_of (new_map p ps) = C.map_like p (keys_of ps)
   pattern_of (binary p gs) = C.bits_like p (segs_of gs)
-  pattern_of t = C.known (place_of t) (term_or_nil (constant_of true t))
+  pattern_of t = C.known (first_place t) (term_or_nil (constant_of true t))
 
   -- the patterns of a row before others
   pub patterns_of : Row → C.Patterns → C.Patterns

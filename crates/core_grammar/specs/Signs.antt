@@ -1,7 +1,6 @@
 -- The tokens of what is written, and then the rest. Each comes with its depth: how many definitions, expressions,
 -- patterns, clauses, constants and annotated parts hold it.
-use Rattle.std.specs.Prelude.{◌≡◌, ◌+◌, ◌^◌, ◌<◌, ◌≤◌, ℕ, zero, suc, ℤ, pos, List, [], ◌∷◌, Bool, true, false, not, ◌||◌, eqb, Option, None, Some, ⊤, if◌then◌else◌}
-use Rattle.erl_base.specs.Names.{Name}
+use Rattle.std.specs.Prelude.{◌≡◌, ◌+◌, ◌≤◌, ℕ, suc, pos, List, [], ◌∷◌, Bool, true, false, not, ◌||◌, eqb, ⊤, if◌then◌else◌}
 use Rattle.erl_base.specs.declared.ids.Place.{Place}
 use Rattle.core_lex.specs.declared.token.Token.{Token}
 use Rattle.core_lex.specs.declared.token.TokenKind.{TokenKind}
@@ -11,7 +10,7 @@ use Rattle.core_lex.specs.declared.token.Word.TheVariants as W
 use Rattle.core_lex.specs.declared.token.Symbol as Symbols
 use Rattle.core_lex.specs.declared.token.Symbol.TheVariants as S
 use Rattle.core_grammar.specs.WrittenTree.{Spelled, Tree, variable, atom, number, wide, float, character, string, function_name, external, noted, alias, list, list_on, tuple, values, new_map, map_on, binary, fun, let_in, letrec, case, apply, call, primop, do_then, catch, try, receive, Row, none, more, Group, single, angled, Pairs, no_pair, pair, Segment, segment, noted_segment, Segments, no_segment, and_segment, Clause, clause, noted_clause, Clauses, no_clause, and_clause, Definitions, no_definition, definition, Attributes, no_attribute, attribute, Written, plain_module, noted_module}
-use Rattle.core_grammar.specs.Standing.{Sort, expression, pattern, constant, note, key, segment_value, a_variable, a_name, an_atom, a_fun, inner_sort, item_sort, key_sort, value_sort, is_short}
+use Rattle.core_grammar.specs.Standing.{Sort, expression, pattern, constant, note, key, segment_value, a_variable, a_name, an_atom, a_fun, inner_sort, item_sort, key_sort, value_sort}
 
 -- what a token has to be: of a kind, of a kind at a place, or an arity
 pub data Sight : Type 0 where
@@ -46,16 +45,16 @@ abbrev pub symbol : ℕ → Symbols.Symbol → List Sign → List Sign
 symbol d s r = plain_sign d (of_kind (Symbol s)) ∷ r
 
 -- a word
-abbrev pub word : ℕ → Words.Word → List Sign → List Sign
-word d w r = plain_sign d (of_kind (Word w)) ∷ r
+abbrev pub kept_word : ℕ → Words.Word → List Sign → List Sign
+kept_word d w r = plain_sign d (of_kind (Word w)) ∷ r
 
 -- a token of a kind at a place
-abbrev pub placed : ℕ → Place → TokenKind → List Sign → List Sign
-placed d p k r = plain_sign d (at_place p k) ∷ r
+abbrev pub token_at : ℕ → Place → TokenKind → List Sign → List Sign
+token_at d p k r = plain_sign d (at_place p k) ∷ r
 
 -- an atom where it is spelled
 abbrev pub spelled : ℕ → Spelled → List Sign → List Sign
-spelled d a r = placed d a.place (Atom a.name) r
+spelled d a r = token_at d a.place (Atom a.name) r
 
 -- a slash and an arity
 abbrev pub arity : ℕ → ℕ → List Sign → List Sign
@@ -116,63 +115,66 @@ module _ (with_notes : Bool) where
   abbrev mutual
     -- of a node with d nodes around it
     pub on : Sort → ℕ → Tree → List Sign → List Sign
-    on s d (variable p x) r = placed (weight s (variable p x) + d) p (Variable x) r
-    on s d (atom p a) r = placed (weight s (atom p a) + d) p (Atom a) r
-    on s d (number p g z) r = placed (weight s (number p g z) + d) p (Number g z) r
-    on s d (wide p n) r = placed (weight s (wide p n) + d) p (Wide n) r
-    on s d (float p) r = placed (suc d) p Float r
-    on s d (character p c) r = placed (suc d) p (Character c) r
-    on s d (string p cs) r = placed (suc d) p (Letters cs) r
+    on s d (variable p x) r = token_at (weight s (variable p x) + d) p (Variable x) r
+    on s d (atom p a) r = token_at (weight s (atom p a) + d) p (Atom a) r
+    on s d (number p g z) r = token_at (weight s (number p g z) + d) p (Number g z) r
+    on s d (wide p n) r = token_at (weight s (wide p n) + d) p (Wide n) r
+    on s d (float p) r = token_at (suc d) p Float r
+    on s d (character p c) r = token_at (suc d) p (Character c) r
+    on s d (string p cs) r = token_at (suc d) p (Letters cs) r
     on s d (function_name p a n) r =
-        placed (weight s (function_name p a n) + d) p (Atom a) (arity (weight s (function_name p a n) + d) n r)
+        token_at (weight s (function_name p a n) + d) p (Atom a) (arity (weight s (function_name p a n) + d) n r)
     on s d (external p m f n) r =
-        placed (suc d) p (Word W.Fun) (spelled (suc d) m (symbol (suc d) S.Colon (spelled (suc d) f (arity (suc d) n r))))
+        token_at (suc d) p (Word W.Fun) (spelled (suc d) m (symbol (suc d) S.Colon
+        (spelled (suc d) f (arity (suc d) n r))))
     on s d (noted p t n) r =
         annotated (suc (weight s (noted p t n) + d)) (at_place p (Symbol S.OpenParen))
         (on (inner_sort s) (suc d) t) (on note (suc (weight s (noted p t n) + d)) n) r
     on s d (alias x t) r = on a_variable (suc d) x (symbol (suc d) S.Equals (on pattern (suc d) t r))
     on s d (list p ts) r =
-        placed (suc d) p (Symbol S.OpenBracket) (row_on true (item_sort s) (suc d) ts (symbol (suc d) S.CloseBracket r))
+        token_at (suc d) p (Symbol S.OpenBracket) (row_on true (item_sort s) (suc d) ts
+        (symbol (suc d) S.CloseBracket r))
     on s d (list_on p t ts u) r =
-        placed (suc d) p (Symbol S.OpenBracket) (on (item_sort s) (suc d) t (row_on false (item_sort s) (suc d) ts
+        token_at (suc d) p (Symbol S.OpenBracket) (on (item_sort s) (suc d) t (row_on false (item_sort s) (suc d) ts
         (symbol (suc d) S.Bar (on (item_sort s) (suc d) u (symbol (suc d) S.CloseBracket r)))))
     on s d (tuple p ts) r =
-        placed (suc d) p (Symbol S.OpenBrace) (row_on true (item_sort s) (suc d) ts (symbol (suc d) S.CloseBrace r))
+        token_at (suc d) p (Symbol S.OpenBrace) (row_on true (item_sort s) (suc d) ts (symbol (suc d) S.CloseBrace r))
     on s d (values p ts) r =
-        placed (suc d) p (Symbol S.OpenAngle) (row_on true expression (suc d) ts (symbol (suc d) S.CloseAngle r))
+        token_at (suc d) p (Symbol S.OpenAngle) (row_on true expression (suc d) ts (symbol (suc d) S.CloseAngle r))
     on s d (new_map p ps) r =
-        placed (suc d) p (Symbol S.OpenMap) (pairs_on true s (suc d) ps (symbol (suc d) S.CloseMap r))
+        token_at (suc d) p (Symbol S.OpenMap) (pairs_on true s (suc d) ps (symbol (suc d) S.CloseMap r))
     on s d (map_on p ps t) r =
-        placed (suc d) p (Symbol S.OpenMap) (pairs_on true s (suc d) ps
+        token_at (suc d) p (Symbol S.OpenMap) (pairs_on true s (suc d) ps
         (symbol (suc d) S.Bar (on expression (suc d) t (symbol (suc d) S.CloseMap r))))
     on s d (binary p gs) r =
-        placed (suc d) p (Symbol S.OpenBinary) (segments_on true s (suc d) gs (symbol (suc d) S.CloseBinary r))
+        token_at (suc d) p (Symbol S.OpenBinary) (segments_on true s (suc d) gs (symbol (suc d) S.CloseBinary r))
     on s d (fun p xs t) r =
-        placed (suc d) p (Word W.Fun) (symbol (suc d) S.OpenParen (row_on true a_variable (suc d) xs
+        token_at (suc d) p (Word W.Fun) (symbol (suc d) S.OpenParen (row_on true a_variable (suc d) xs
         (symbol (suc d) S.CloseParen (symbol (suc d) S.Arrow (on expression (suc d) t r)))))
     on s d (let_in p xs t u) r =
-        placed (suc d) p (Word W.Let) (group_on a_variable (suc d) xs
-        (symbol (suc d) S.Equals (on expression (suc d) t (word (suc d) W.In (on expression (suc d) u r)))))
+        token_at (suc d) p (Word W.Let) (group_on a_variable (suc d) xs
+        (symbol (suc d) S.Equals (on expression (suc d) t (kept_word (suc d) W.In (on expression (suc d) u r)))))
     on s d (letrec p ds t) r =
-        placed (suc d) p (Word W.Letrec) (definitions_on (suc d) ds (word (suc d) W.In (on expression (suc d) t r)))
+        token_at (suc d) p (Word W.Letrec) (definitions_on (suc d) ds (kept_word (suc d) W.In
+        (on expression (suc d) t r)))
     on s d (case p t c cs) r =
-        placed (suc d) p (Word W.Case) (on expression (suc d) t (word (suc d) W.Of
-        (clause_on (suc d) c (clauses_on (suc d) cs (word (suc d) W.End r)))))
+        token_at (suc d) p (Word W.Case) (on expression (suc d) t (kept_word (suc d) W.Of
+        (clause_on (suc d) c (clauses_on (suc d) cs (kept_word (suc d) W.End r)))))
     on s d (apply p t ts) r =
-        placed (suc d) p (Word W.Apply) (on expression (suc d) t (arguments_on (suc d) ts r))
+        token_at (suc d) p (Word W.Apply) (on expression (suc d) t (arguments_on (suc d) ts r))
     on s d (call p m f ts) r =
-        placed (suc d) p (Word W.Call) (on expression (suc d) m
+        token_at (suc d) p (Word W.Call) (on expression (suc d) m
         (symbol (suc d) S.Colon (on expression (suc d) f (arguments_on (suc d) ts r))))
-    on s d (primop p a ts) r = placed (suc d) p (Word W.Primop) (spelled (suc d) a (arguments_on (suc d) ts r))
+    on s d (primop p a ts) r = token_at (suc d) p (Word W.Primop) (spelled (suc d) a (arguments_on (suc d) ts r))
     on s d (do_then p t u) r =
-        placed (suc d) p (Word W.Do) (on expression (suc d) t (on expression (suc d) u r))
-    on s d (catch p t) r = placed (suc d) p (Word W.Catch) (on expression (suc d) t r)
+        token_at (suc d) p (Word W.Do) (on expression (suc d) t (on expression (suc d) u r))
+    on s d (catch p t) r = token_at (suc d) p (Word W.Catch) (on expression (suc d) t r)
     on s d (try p t xs u ys v) r =
-        placed (suc d) p (Word W.Try) (on expression (suc d) t (word (suc d) W.Of (group_on a_variable (suc d) xs
-        (symbol (suc d) S.Arrow (on expression (suc d) u (word (suc d) W.Catch (group_on a_variable (suc d) ys
+        token_at (suc d) p (Word W.Try) (on expression (suc d) t (kept_word (suc d) W.Of (group_on a_variable (suc d) xs
+        (symbol (suc d) S.Arrow (on expression (suc d) u (kept_word (suc d) W.Catch (group_on a_variable (suc d) ys
         (catch_arrow (suc d) (group_count ys) (on expression (suc d) v r)))))))))
     on s d (receive p cs t u) r =
-        placed (suc d) p (Word W.Receive) (clauses_on (suc d) cs (word (suc d) W.After
+        token_at (suc d) p (Word W.Receive) (clauses_on (suc d) cs (kept_word (suc d) W.After
         (on expression (suc d) t (symbol (suc d) S.Arrow (on expression (suc d) u r)))))
 
     -- items, the first of them without a comma
@@ -190,7 +192,7 @@ module _ (with_notes : Bool) where
     pub group_on : Sort → ℕ → Group → List Sign → List Sign
     group_on s d (single t) r = on s d t r
     group_on s d (angled p ts) r =
-        placed d p (Symbol S.OpenAngle) (row_on true s d ts (symbol d S.CloseAngle r))
+        token_at d p (Symbol S.OpenAngle) (row_on true s d ts (symbol d S.CloseAngle r))
 
     -- pairs of a map
     pub pairs_on : (first : Bool) → Sort → ℕ → Pairs → List Sign → List Sign
@@ -202,7 +204,7 @@ module _ (with_notes : Bool) where
     -- a segment counts nothing itself
     pub segment_on : Sort → ℕ → Segment → List Sign → List Sign
     segment_on s d (segment p t u n k f) r =
-        placed d p (Symbol S.OpenSegment) (on (value_sort s) d t (symbol d S.CloseAngle (symbol d S.OpenParen
+        token_at d p (Symbol S.OpenSegment) (on (value_sort s) d t (symbol d S.CloseAngle (symbol d S.OpenParen
         (on (key_sort s) d u (symbol d S.Comma (on constant d n (symbol d S.Comma (on an_atom d k
         (symbol d S.Comma (on constant d f (symbol d S.CloseParen r)))))))))))
     segment_on s d (noted_segment g n) r =
@@ -216,7 +218,7 @@ module _ (with_notes : Bool) where
     -- a clause with d nodes around it
     pub clause_on : ℕ → Clause → List Sign → List Sign
     clause_on d (clause ts t u) r =
-        group_on pattern (suc d) ts (word (suc d) W.When (on expression (suc d) t
+        group_on pattern (suc d) ts (kept_word (suc d) W.When (on expression (suc d) t
         (symbol (suc d) S.Arrow (on expression (suc d) u r))))
     clause_on d (noted_clause c n) r =
         annotated (suc (suc d)) (of_kind (Symbol S.OpenParen)) (clause_on (suc d) c) (on note (suc (suc d)) n) r
@@ -241,9 +243,9 @@ module _ (with_notes : Bool) where
   -- a module, within d annotations
   abbrev pub module_on : ℕ → Written → List Sign → List Sign
   module_on d (plain_module a xs bs ds) r =
-      word d W.Module (spelled d a (symbol d S.OpenBracket (row_on true a_name d xs (symbol d S.CloseBracket
-      (word d W.Attributes (symbol d S.OpenBracket (attributes_on true d bs (symbol d S.CloseBracket
-      (definitions_on d ds (word d W.End r))))))))))
+      kept_word d W.Module (spelled d a (symbol d S.OpenBracket (row_on true a_name d xs (symbol d S.CloseBracket
+      (kept_word d W.Attributes (symbol d S.OpenBracket (attributes_on true d bs (symbol d S.CloseBracket
+      (definitions_on d ds (kept_word d W.End r))))))))))
   module_on d (noted_module w n) r =
       annotated (suc d) (of_kind (Symbol S.OpenParen)) (module_on (suc d) w) (on note (suc d) n) r
 

@@ -1,6 +1,9 @@
 -- Where each form may stand. A sort is what the grammar wants at a point of the text: the tables say which forms it
 -- takes, and what it wants of their parts.
-use Rattle.std.specs.Prelude.{ℕ, zero, suc, ◌^◌, Bool, true, false, not, ◌&&◌, ltb, Option, None, Some}
+use Rattle.std.specs.Prelude.{ℕ, ◌^◌, Bool, true, false, not, ◌&&◌, ltb, None, Some}
+use Rattle.std.specs.List.{list_all}
+use Rattle.erl_term.specs.Ranges.{is_within_128}
+use Rattle.core_form.specs.SourceTree.{is_variable_name, is_arity}
 use Rattle.core_grammar.specs.WrittenTree.{Tree, variable, atom, number, wide, float, character, string, function_name, external, noted, alias, list, list_on, tuple, values, new_map, map_on, binary, fun, let_in, letrec, case, apply, call, primop, do_then, catch, try, receive, Row, none, more, Group, single, angled, Pairs, no_pair, pair, Segment, segment, noted_segment, Segments, no_segment, and_segment, Clause, clause, noted_clause, Clauses, no_clause, and_clause, Definitions, no_definition, definition, Attributes, no_attribute, attribute, Written, plain_module, noted_module}
 use Rattle.core_grammar.specs.ConstantTerms.{bits_of_segments}
 
@@ -102,22 +105,22 @@ takes_binary expression gs = true
 takes_binary pattern gs = true
 takes_binary s gs = takes_constant s && elim (bits_of_segments gs) [ None ↦ false | Some bs ↦ true ]
 
--- an arity has at most nine digits
-abbrev pub is_short : ℕ → Bool
-is_short n = ltb n (10 ^ 9)
+-- a code point takes 32 bits; tokens that no lexer made could have more
+abbrev pub is_code : ℕ → Bool
+is_code c = ltb c (2 ^ 32)
 
 abbrev mutual
   -- what is written has this sort
   pub stands : Sort → Tree → Bool
-  stands s (variable p x) = takes_variable s
+  stands s (variable p x) = takes_variable s && is_variable_name x
   stands s (atom p a) = takes_atom s
-  stands s (number p g z) = takes_integer s
+  stands s (number p g z) = takes_integer s && is_within_128 z
   stands s (wide p n) = takes_integer s
   stands s (float p) = takes_constant s
-  stands s (character p c) = takes_constant s
-  stands s (string p cs) = takes_list s
-  stands s (function_name p a n) = takes_name s && is_short n
-  stands s (external p m f n) = takes_constant s && is_short n
+  stands s (character p c) = takes_constant s && is_code c
+  stands s (string p cs) = takes_list s && list_all is_code cs
+  stands s (function_name p a n) = takes_name s && is_arity n
+  stands s (external p m f n) = takes_constant s && is_arity n
   stands s (noted p t n) = stands (inner_sort s) t && stands note n
   stands s (alias x t) = takes_alias s && stands a_variable x && stands pattern t
   stands s (list p ts) = takes_list s && row_stands (item_sort s) ts
@@ -134,7 +137,8 @@ abbrev mutual
   stands s (letrec p ds t) = takes_expression s && definitions_stand ds && stands expression t
   stands s (case p t c cs) = takes_expression s && stands expression t && clause_stands c && clauses_stand cs
   stands s (apply p t ts) = takes_expression s && stands expression t && row_stands expression ts
-  stands s (call p m f ts) = takes_expression s && stands expression m && stands expression f && row_stands expression ts
+  stands s (call p m f ts) =
+      takes_expression s && stands expression m && stands expression f && row_stands expression ts
   stands s (primop p a ts) = takes_expression s && row_stands expression ts
   stands s (do_then p t u) = takes_expression s && stands expression t && stands expression u
   stands s (catch p t) = takes_expression s && stands expression t

@@ -117,33 +117,33 @@ pub data Written : Type 0 where
   noted_module : Written → (note : Tree) → Written
 
 -- the place of a node's first token
-abbrev pub place_of : Tree → Place
-place_of (variable p x) = p
-place_of (atom p a) = p
-place_of (number p g z) = p
-place_of (wide p n) = p
-place_of (float p) = p
-place_of (character p c) = p
-place_of (string p cs) = p
-place_of (function_name p a n) = p
-place_of (external p m f n) = p
-place_of (noted p t n) = p
-place_of (alias x t) = place_of x
-place_of (list p ts) = p
-place_of (list_on p t ts u) = p
-place_of (tuple p ts) = p
-place_of (values p ts) = p
-place_of (new_map p ps) = p
-place_of (map_on p ps t) = p
-place_of (binary p gs) = p
-place_of (fun p xs t) = p
-place_of (let_in p xs t u) = p
-place_of (letrec p ds t) = p
-place_of (case p t c cs) = p
-place_of (apply p t ts) = p
-place_of (call p m f ts) = p
-place_of (primop p a ts) = p
-place_of (do_then p t u) = p
-place_of (catch p t) = p
-place_of (try p t xs u ys v) = p
-place_of (receive p cs t u) = p
+abbrev pub first_place : Tree → Place
+first_place (variable p x) = p
+first_place (atom p a) = p
+first_place (number p g z) = p
+first_place (wide p n) = p
+first_place (float p) = p
+first_place (character p c) = p
+first_place (string p cs) = p
+first_place (function_name p a n) = p
+first_place (external p m f n) = p
+first_place (noted p t n) = p
+first_place (alias x t) = first_place x
+first_place (list p ts) = p
+first_place (list_on p t ts u) = p
+first_place (tuple p ts) = p
+first_place (values p ts) = p
+first_place (new_map p ps) = p
+first_place (map_on p ps t) = p
+first_place (binary p gs) = p
+first_place (fun p xs t) = p
+first_place (let_in p xs t u) = p
+first_place (letrec p ds t) = p
+first_place (case p t c cs) = p
+first_place (apply p t ts) = p
+first_place (call p m f ts) = p
+first_place (primop p a ts) = p
+first_place (do_then p t u) = p
+first_place (catch p t) = p
+first_place (try p t xs u ys v) = p
+first_place (receive p cs t u) = p
