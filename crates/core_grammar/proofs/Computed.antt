@@ -1,5 +1,5 @@
 -- Each example, by computing it.
-use Rattle.std.proofs.Common.{arith, refl, ℕ, ◌+◌, pos, false, codes}
+use Rattle.std.proofs.Common.{◌≡◌, true, arith, refl, ℕ, ◌+◌, pos, false, codes}
 use Rattle.erl_base.specs.declared.ids.Place.{Place}
 use Rattle.core_lex.specs.declared.token.TokenKind.TheVariants.{Number}
 use Rattle.core_grammar.specs.Signs.{IsArityToken}
@@ -10,26 +10,30 @@ use Rattle.core_lex.specs.Tokens.{token, tokens, word_at, variable_at, symbol_at
 use Rattle.core_grammar.specs.WrittenTree.{none, more, variable, function_name, fun, plain_module, no_attribute, no_definition, definition}
 use Rattle.core_grammar.specs.Examples.{at, WrittenAsRead, StandsWhere, DeepAs, ReadsAs, TextExamples}
 
+-- what does not hold
+never : false ≡ true → ⊥
+never e = absurd cc
+
 pub stands_where : StandsWhere
 stands_where = record {
-  list_note = refl;
-  atom_note = refl;
-  map_pattern = refl;
-  loose_pattern = refl;
-  tuple_key = refl;
-  noted_alias = refl;
-  alias_alias = refl;
-  integer_segment = refl;
-  noted_integer = refl;
-  character_segment = refl;
-  widest = refl;
-  too_wide = refl;
-  no_float = refl;
+  list_note = ((refl, refl), ((refl, refl), (refl, tt)));
+  atom_note = λ h. never h.1;
+  map_pattern = (refl, ((refl, refl), refl, (refl, refl), tt));
+  loose_pattern = λ h. never h.1.1;
+  tuple_key = λ h. never h.1.0.0;
+  noted_alias = (refl, ((refl, refl), (refl, tt)), (refl, refl));
+  alias_alias = λ h. never h.1.0.0;
+  integer_segment = (refl, (((refl, refl), (refl, refl), (refl, refl), refl, (refl, tt)), tt));
+  noted_integer = λ h. never h.0.0;
+  character_segment = λ h. never h.0;
+  widest = (refl, ((refl, (refl, refl), (refl, refl), refl, (refl, tt)), tt));
+  too_wide = λ h. never h.0;
+  no_float = λ h. never h.0;
   two_caught = refl;
   one_caught = refl;
   four_caught = refl;
-  nine_digits = refl;
-  ten_digits = refl;
+  nine_digits = (refl, refl);
+  ten_digits = λ h. never h.1;
 }
 
 pub deep_as : DeepAs
@@ -86,7 +90,7 @@ text_examples = record {
         (more (function_name (at 13) (codes "f") 1) none) no_attribute
         (definition (function_name (at 34) (codes "f") 1)
         (fun (at 42) (more (variable (at 47) (codes "X")) none) (variable (at 53) (codes "X"))) no_definition);
-    stands = refl;
+    stands = (((refl, refl), tt), tt, ((refl, refl), (refl, ((refl, refl), tt), (refl, refl)), tt));
     fits = (
       refl,
       refl,

@@ -12,7 +12,7 @@ use Rattle.core_lex.specs.Tokens.{tokens}
 use Rattle.core_form.specs.Core as C
 use Rattle.core_form.specs.View.{exprs, patterns, defs}
 use Rattle.core_grammar.specs.WrittenTree.{Tree, variable, atom, number, wide, float, character, string, function_name, external, noted, alias, list, list_on, tuple, values, new_map, map_on, binary, fun, let_in, letrec, case, apply, call, primop, do_then, catch, try, receive, Row, none, more, Group, single, angled, Pairs, no_pair, pair, Segment, segment, no_segment, and_segment, Clause, clause, noted_clause, no_clause, and_clause, no_definition, definition, no_attribute, attribute, Written, plain_module, noted_module}
-use Rattle.core_grammar.specs.Standing.{expression, pattern, constant, key, segment_value, stands}
+use Rattle.core_grammar.specs.Standing.{expression, pattern, constant, key, segment_value, Stands}
 use Rattle.core_grammar.specs.Signs.{of_kind, at_place, an_arity, Sign, on, clause_on, signs}
 use Rattle.core_grammar.specs.ModuleOf.{expr_of, pattern_of, module_of}
 use Rattle.core_grammar.specs.Texts.{ModuleText}
@@ -163,31 +163,31 @@ pub record WrittenAsRead : Type 0 where
 -- What stands where.
 pub record StandsWhere : Type 0 where
   -- annotations hold lists alone
-  pub list_note : stands expression (noted here (i 1) (noted here (string here []) nothing)) ≡ true
-  pub atom_note : stands expression (noted here (i 1) (a "a")) ≡ false
+  pub list_note : Stands expression (noted here (i 1) (noted here (string here []) nothing))
+  pub atom_note : Stands expression (noted here (i 1) (a "a")) → ⊥
   -- the arrow of a pattern's map is `:=`
-  pub map_pattern : stands pattern (new_map here (pair (v "K") true (v "X") no_pair)) ≡ true
-  pub loose_pattern : stands pattern (new_map here (pair (v "K") false (v "X") no_pair)) ≡ false
+  pub map_pattern : Stands pattern (new_map here (pair (v "K") true (v "X") no_pair))
+  pub loose_pattern : Stands pattern (new_map here (pair (v "K") false (v "X") no_pair)) → ⊥
   -- a key is a variable or any constant, and no tuple with a variable
-  pub tuple_key : stands key (tuple here (row_of (v "K" ∷ []))) ≡ false
+  pub tuple_key : Stands key (tuple here (row_of (v "K" ∷ []))) → ⊥
   -- an annotated variable may have a pattern, and nothing else may
-  pub noted_alias : stands pattern (alias (noted here (v "X") nothing) (i 1)) ≡ true
-  pub alias_alias : stands pattern (alias (noted here (alias (v "X") (i 1)) nothing) (i 1)) ≡ false
+  pub noted_alias : Stands pattern (alias (noted here (v "X") nothing) (i 1))
+  pub alias_alias : Stands pattern (alias (noted here (alias (v "X") (i 1)) nothing) (i 1)) → ⊥
   -- the integer of a pattern's segment has no annotation, and is no character
-  pub integer_segment : stands pattern (binary here (and_segment (segment_with (i 1) (i 8)) no_segment)) ≡ true
-  pub noted_integer : stands segment_value (noted here (i 1) nothing) ≡ false
-  pub character_segment : stands segment_value (character here 1) ≡ false
+  pub integer_segment : Stands pattern (binary here (and_segment (segment_with (i 1) (i 8)) no_segment))
+  pub noted_integer : Stands segment_value (noted here (i 1) nothing) → ⊥
+  pub character_segment : Stands segment_value (character here 1) → ⊥
   -- a constant binary has at most 256 bits a segment, and no float
-  pub widest : stands constant (binary here (and_segment (segment_with (wide here 40) (i 256)) no_segment)) ≡ true
-  pub too_wide : stands constant (binary here (and_segment (segment_with (i 1) (i 257)) no_segment)) ≡ false
-  pub no_float : stands constant (binary here (and_segment (segment_with (float here) (i 8)) no_segment)) ≡ false
+  pub widest : Stands constant (binary here (and_segment (segment_with (wide here 40) (i 256)) no_segment))
+  pub too_wide : Stands constant (binary here (and_segment (segment_with (i 1) (i 257)) no_segment)) → ⊥
+  pub no_float : Stands constant (binary here (and_segment (segment_with (float here) (i 8)) no_segment)) → ⊥
   -- a catch part has two or three variables, and the arrow behind it tells
   pub two_caught : marks (angles (v "A" ∷ v "B" ∷ [])) ≡ false
   pub one_caught : marks (single (v "A")) ≡ true
   pub four_caught : marks (angles (v "A" ∷ v "B" ∷ v "C" ∷ v "D" ∷ [])) ≡ true
   -- ten digits are no arity
-  pub nine_digits : stands expression (function_name here (codes "f") 999999999) ≡ true
-  pub ten_digits : stands expression (function_name here (codes "f") 1000000000) ≡ false
+  pub nine_digits : Stands expression (function_name here (codes "f") 999999999)
+  pub ten_digits : Stands expression (function_name here (codes "f") 1000000000) → ⊥
 
 -- What holds a token.
 pub record DeepAs : Type 0 where

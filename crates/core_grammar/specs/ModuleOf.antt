@@ -103,7 +103,7 @@ abbrev mutual
   expr_of (function_name p a n) = C.fun_name p (function_key a n)
   expr_of (external p m f n) = C.literal p (T.extern m.name f.name n)
   expr_of (noted p t n) = expr_of t
-  expr_of (alias x t) = expr_of t
+  expr_of (alias x t) = C.values (first_place x) C.no_expr
   expr_of (list p ts) =
       literal_or p (constant_of false (list p ts)) (C.list p (exprs_of ts C.no_expr) (C.literal p T.nil))
   expr_of (list_on p t ts u) =
@@ -196,7 +196,7 @@ abbrev mutual
   pattern_of (tuple p ts) = known_or p (constant_of true (tuple p ts)) (C.tuple_like p (patterns_of ts C.no_pattern))
   pattern_of (new_map p ps) = C.map_like p (keys_of ps)
   pattern_of (binary p gs) = C.bits_like p (segs_of gs)
-  pattern_of t = C.known (first_place t) (term_or_nil (constant_of true t))
+  pattern_of t = known_or (first_place t) (constant_of true t) (C.bits_like (first_place t) C.no_seg)
 
   -- the patterns of a row before others
   pub patterns_of : Row → C.Patterns → C.Patterns

@@ -65,6 +65,10 @@ abbrev pub comma_before : (first : Bool) → ℕ → List Sign → List Sign
 comma_before true d r = r
 comma_before false d r = symbol d S.Comma r
 
+-- ( inside )
+abbrev pub in_parens : ℕ → (inside : List Sign → List Sign) → List Sign → List Sign
+in_parens d inside r = symbol d S.OpenParen (inside (symbol d S.CloseParen r))
+
 -- the arrow of a pair
 abbrev pub pair_symbol : (exact : Bool) → Symbols.Symbol
 pair_symbol true = S.ExactAssociation
@@ -161,11 +165,11 @@ module _ (with_notes : Bool) where
         token_at (suc d) p (Word W.Case) (on expression (suc d) t (kept_word (suc d) W.Of
         (clause_on (suc d) c (clauses_on (suc d) cs (kept_word (suc d) W.End r)))))
     on s d (apply p t ts) r =
-        token_at (suc d) p (Word W.Apply) (on expression (suc d) t (arguments_on (suc d) ts r))
+        token_at (suc d) p (Word W.Apply) (on expression (suc d) t (in_parens (suc d) (row_on true expression (suc d) ts) r))
     on s d (call p m f ts) r =
         token_at (suc d) p (Word W.Call) (on expression (suc d) m
-        (symbol (suc d) S.Colon (on expression (suc d) f (arguments_on (suc d) ts r))))
-    on s d (primop p a ts) r = token_at (suc d) p (Word W.Primop) (spelled (suc d) a (arguments_on (suc d) ts r))
+        (symbol (suc d) S.Colon (on expression (suc d) f (in_parens (suc d) (row_on true expression (suc d) ts) r))))
+    on s d (primop p a ts) r = token_at (suc d) p (Word W.Primop) (spelled (suc d) a (in_parens (suc d) (row_on true expression (suc d) ts) r))
     on s d (do_then p t u) r =
         token_at (suc d) p (Word W.Do) (on expression (suc d) t (on expression (suc d) u r))
     on s d (catch p t) r = token_at (suc d) p (Word W.Catch) (on expression (suc d) t r)
@@ -181,12 +185,6 @@ module _ (with_notes : Bool) where
     pub row_on : (first : Bool) → Sort → ℕ → Row → List Sign → List Sign
     row_on first s d none r = r
     row_on first s d (more t ts) r = comma_before first d (on s d t (row_on false s d ts r))
-
-    -- ( arguments )
-    pub arguments_on : ℕ → Row → List Sign → List Sign
-    arguments_on d none r = symbol d S.OpenParen (symbol d S.CloseParen r)
-    arguments_on d (more t ts) r =
-        symbol d S.OpenParen (on expression d t (row_on false expression d ts (symbol d S.CloseParen r)))
 
     -- one item, or items in angle brackets
     pub group_on : Sort → ℕ → Group → List Sign → List Sign

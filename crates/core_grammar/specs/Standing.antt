@@ -1,6 +1,6 @@
 -- Where each form may stand. A sort is what the grammar wants at a point of the text: the tables say which forms it
 -- takes, and what it wants of their parts.
-use Rattle.std.specs.Prelude.{ℕ, ◌^◌, Bool, true, false, not, ◌&&◌, ltb, None, Some}
+use Rattle.std.specs.Prelude.{ℕ, ◌^◌, Bool, true, false, not, ◌&&◌, ltb, None, Some, IsTrue, ⊤}
 use Rattle.std.specs.List.{list_all}
 use Rattle.erl_term.specs.Ranges.{is_within_128}
 use Rattle.core_form.specs.SourceTree.{is_variable_name, is_arity}
@@ -111,82 +111,82 @@ is_code c = ltb c (2 ^ 32)
 
 abbrev mutual
   -- what is written has this sort
-  pub stands : Sort → Tree → Bool
-  stands s (variable p x) = takes_variable s && is_variable_name x
-  stands s (atom p a) = takes_atom s
-  stands s (number p g z) = takes_integer s && is_within_128 z
-  stands s (wide p n) = takes_integer s
-  stands s (float p) = takes_constant s
-  stands s (character p c) = takes_constant s && is_code c
-  stands s (string p cs) = takes_list s && list_all is_code cs
-  stands s (function_name p a n) = takes_name s && is_arity n
-  stands s (external p m f n) = takes_constant s && is_arity n
-  stands s (noted p t n) = stands (inner_sort s) t && stands note n
-  stands s (alias x t) = takes_alias s && stands a_variable x && stands pattern t
-  stands s (list p ts) = takes_list s && row_stands (item_sort s) ts
-  stands s (list_on p t ts u) =
-      takes_list s && stands (item_sort s) t && row_stands (item_sort s) ts && stands (item_sort s) u
-  stands s (tuple p ts) = takes_constant s && row_stands (item_sort s) ts
-  stands s (values p ts) = takes_expression s && row_stands expression ts
-  stands s (new_map p ps) = takes_constant s && pairs_stand s ps
-  stands s (map_on p ps t) = takes_expression s && pairs_stand s ps && stands expression t
-  stands s (binary p gs) = takes_binary s gs && segments_stand s gs
-  stands s (fun p xs t) = takes_fun s && row_stands a_variable xs && stands expression t
-  stands s (let_in p xs t u) =
-      takes_expression s && group_stands a_variable xs && stands expression t && stands expression u
-  stands s (letrec p ds t) = takes_expression s && definitions_stand ds && stands expression t
-  stands s (case p t c cs) = takes_expression s && stands expression t && clause_stands c && clauses_stand cs
-  stands s (apply p t ts) = takes_expression s && stands expression t && row_stands expression ts
-  stands s (call p m f ts) =
-      takes_expression s && stands expression m && stands expression f && row_stands expression ts
-  stands s (primop p a ts) = takes_expression s && row_stands expression ts
-  stands s (do_then p t u) = takes_expression s && stands expression t && stands expression u
-  stands s (catch p t) = takes_expression s && stands expression t
-  stands s (try p t xs u ys v) =
-      takes_expression s && stands expression t && group_stands a_variable xs && stands expression u
-      && group_stands a_variable ys && stands expression v
-  stands s (receive p cs t u) = takes_expression s && clauses_stand cs && stands expression t && stands expression u
+  pub Stands : Sort → Tree → Type 0
+  Stands s (variable p x) = IsTrue (takes_variable s) × IsTrue (is_variable_name x)
+  Stands s (atom p a) = IsTrue (takes_atom s)
+  Stands s (number p g z) = IsTrue (takes_integer s) × IsTrue (is_within_128 z)
+  Stands s (wide p n) = IsTrue (takes_integer s)
+  Stands s (float p) = IsTrue (takes_constant s)
+  Stands s (character p c) = IsTrue (takes_constant s) × IsTrue (is_code c)
+  Stands s (string p cs) = IsTrue (takes_list s) × IsTrue (list_all is_code cs)
+  Stands s (function_name p a n) = IsTrue (takes_name s) × IsTrue (is_arity n)
+  Stands s (external p m f n) = IsTrue (takes_constant s) × IsTrue (is_arity n)
+  Stands s (noted p t n) = Stands (inner_sort s) t × Stands note n
+  Stands s (alias x t) = IsTrue (takes_alias s) × Stands a_variable x × Stands pattern t
+  Stands s (list p ts) = IsTrue (takes_list s) × RowStands (item_sort s) ts
+  Stands s (list_on p t ts u) =
+      IsTrue (takes_list s) × Stands (item_sort s) t × RowStands (item_sort s) ts × Stands (item_sort s) u
+  Stands s (tuple p ts) = IsTrue (takes_constant s) × RowStands (item_sort s) ts
+  Stands s (values p ts) = IsTrue (takes_expression s) × RowStands expression ts
+  Stands s (new_map p ps) = IsTrue (takes_constant s) × PairsStand s ps
+  Stands s (map_on p ps t) = IsTrue (takes_expression s) × PairsStand s ps × Stands expression t
+  Stands s (binary p gs) = IsTrue (takes_binary s gs) × SegmentsStand s gs
+  Stands s (fun p xs t) = IsTrue (takes_fun s) × RowStands a_variable xs × Stands expression t
+  Stands s (let_in p xs t u) =
+      IsTrue (takes_expression s) × GroupStands a_variable xs × Stands expression t × Stands expression u
+  Stands s (letrec p ds t) = IsTrue (takes_expression s) × DefinitionsStand ds × Stands expression t
+  Stands s (case p t c cs) = IsTrue (takes_expression s) × Stands expression t × ClauseStands c × ClausesStand cs
+  Stands s (apply p t ts) = IsTrue (takes_expression s) × Stands expression t × RowStands expression ts
+  Stands s (call p m f ts) =
+      IsTrue (takes_expression s) × Stands expression m × Stands expression f × RowStands expression ts
+  Stands s (primop p a ts) = IsTrue (takes_expression s) × RowStands expression ts
+  Stands s (do_then p t u) = IsTrue (takes_expression s) × Stands expression t × Stands expression u
+  Stands s (catch p t) = IsTrue (takes_expression s) × Stands expression t
+  Stands s (try p t xs u ys v) =
+      IsTrue (takes_expression s) × Stands expression t × GroupStands a_variable xs × Stands expression u
+      × GroupStands a_variable ys × Stands expression v
+  Stands s (receive p cs t u) = IsTrue (takes_expression s) × ClausesStand cs × Stands expression t × Stands expression u
 
-  pub row_stands : Sort → Row → Bool
-  row_stands s none = true
-  row_stands s (more t ts) = stands s t && row_stands s ts
+  pub RowStands : Sort → Row → Type 0
+  RowStands s none = ⊤
+  RowStands s (more t ts) = Stands s t × RowStands s ts
 
-  pub group_stands : Sort → Group → Bool
-  group_stands s (single t) = stands s t
-  group_stands s (angled p ts) = row_stands s ts
+  pub GroupStands : Sort → Group → Type 0
+  GroupStands s (single t) = Stands s t
+  GroupStands s (angled p ts) = RowStands s ts
 
-  pub pairs_stand : Sort → Pairs → Bool
-  pairs_stand s no_pair = true
-  pairs_stand s (pair t x u ps) =
-      stands (key_sort s) t && takes_pair s x && stands (item_sort s) u && pairs_stand s ps
+  pub PairsStand : Sort → Pairs → Type 0
+  PairsStand s no_pair = ⊤
+  PairsStand s (pair t x u ps) =
+      Stands (key_sort s) t × IsTrue (takes_pair s x) × Stands (item_sort s) u × PairsStand s ps
 
-  pub segment_stands : Sort → Segment → Bool
-  segment_stands s (segment p t u n k f) =
-      stands (value_sort s) t && stands (key_sort s) u && stands constant n && stands an_atom k && stands constant f
-  segment_stands s (noted_segment g n) = segment_stands s g && stands note n
+  pub SegmentStands : Sort → Segment → Type 0
+  SegmentStands s (segment p t u n k f) =
+      Stands (value_sort s) t × Stands (key_sort s) u × Stands constant n × Stands an_atom k × Stands constant f
+  SegmentStands s (noted_segment g n) = SegmentStands s g × Stands note n
 
-  pub segments_stand : Sort → Segments → Bool
-  segments_stand s no_segment = true
-  segments_stand s (and_segment g gs) = segment_stands s g && segments_stand s gs
+  pub SegmentsStand : Sort → Segments → Type 0
+  SegmentsStand s no_segment = ⊤
+  SegmentsStand s (and_segment g gs) = SegmentStands s g × SegmentsStand s gs
 
-  pub clause_stands : Clause → Bool
-  clause_stands (clause ts t u) = group_stands pattern ts && stands expression t && stands expression u
-  clause_stands (noted_clause c n) = clause_stands c && stands note n
+  pub ClauseStands : Clause → Type 0
+  ClauseStands (clause ts t u) = GroupStands pattern ts × Stands expression t × Stands expression u
+  ClauseStands (noted_clause c n) = ClauseStands c × Stands note n
 
-  pub clauses_stand : Clauses → Bool
-  clauses_stand no_clause = true
-  clauses_stand (and_clause c cs) = clause_stands c && clauses_stand cs
+  pub ClausesStand : Clauses → Type 0
+  ClausesStand no_clause = ⊤
+  ClausesStand (and_clause c cs) = ClauseStands c × ClausesStand cs
 
-  pub definitions_stand : Definitions → Bool
-  definitions_stand no_definition = true
-  definitions_stand (definition x t ds) = stands a_name x && stands a_fun t && definitions_stand ds
+  pub DefinitionsStand : Definitions → Type 0
+  DefinitionsStand no_definition = ⊤
+  DefinitionsStand (definition x t ds) = Stands a_name x × Stands a_fun t × DefinitionsStand ds
 
 -- attributes have atoms and constants
-abbrev pub attributes_stand : Attributes → Bool
-attributes_stand no_attribute = true
-attributes_stand (attribute a t bs) = stands an_atom a && stands constant t && attributes_stand bs
+abbrev pub AttributesStand : Attributes → Type 0
+AttributesStand no_attribute = ⊤
+AttributesStand (attribute a t bs) = Stands an_atom a × Stands constant t × AttributesStand bs
 
 -- what is written is a module
-abbrev pub is_module : Written → Bool
-is_module (plain_module a xs bs ds) = row_stands a_name xs && attributes_stand bs && definitions_stand ds
-is_module (noted_module w n) = is_module w && stands note n
+abbrev pub IsModule : Written → Type 0
+IsModule (plain_module a xs bs ds) = RowStands a_name xs × AttributesStand bs × DefinitionsStand ds
+IsModule (noted_module w n) = IsModule w × Stands note n

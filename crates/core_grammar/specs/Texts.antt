@@ -9,21 +9,21 @@ use Rattle.erl_base.specs.declared.refusal.LimitName.TheVariants.{Nesting}
 use Rattle.core_lex.specs.declared.token.Token.{Token}
 use Rattle.core_form.specs.Core.{Module}
 use Rattle.core_grammar.specs.WrittenTree.{Written}
-use Rattle.core_grammar.specs.Standing.{is_module}
+use Rattle.core_grammar.specs.Standing.{IsModule}
 use Rattle.core_grammar.specs.Signs.{Sign, signs, FitFront, FitWhole}
 use Rattle.core_grammar.specs.ModuleOf.{module_of}
 
 -- the tokens are those of a written module without marks, which stands for m
 pub record ModuleText (ts : List Token) (m : Module) : Type 0 where
   pub written : Written
-  pub stands : IsTrue (is_module written)
+  pub stands : IsModule written
   pub fits : FitWhole (signs written) ts
   pub tree : module_of written ≡ m
 
 -- the tokens of a written module begin with these, and no mark is among them
 pub record BeginsModule (ts : List Token) : Type 0 where
   pub written : Written
-  pub stands : IsTrue (is_module written)
+  pub stands : IsModule written
   pub fits : FitFront (signs written) ts
 
 -- where a token stands among others
@@ -57,7 +57,7 @@ last_depth _ _ = 0
 -- the last of the tokens is deeper in every text that begins with them, and there is one
 pub record IsDeeper (most : ℕ) (ts : List Token) : Type 0 where
   pub begins : BeginsModule ts
-  pub deeper : (w : Written) → IsTrue (is_module w) → FitFront (signs w) ts → most < last_depth (signs w) ts
+  pub deeper : (w : Written) → IsModule w → FitFront (signs w) ts → most < last_depth (signs w) ts
 
 -- no token is deeper
 abbrev pub NestsWithin : ℕ → List Token → Type 0
