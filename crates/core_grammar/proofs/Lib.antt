@@ -1,3 +1,5 @@
 pub mod Computed
 pub mod Truths
 pub mod Constants
+pub mod Past
+pub mod Literals
