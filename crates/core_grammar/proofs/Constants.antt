@@ -33,7 +33,7 @@ both_have P None os h k = tt
 both_have P (Some x) None h k = tt
 both_have P (Some x) (Some xs) h k = (h, k)
 
-code_within : (c : ℕ) → IsTrue (is_code c) → IsTrue (is_within_128 (pos c))
+pub code_within : (c : ℕ) → IsTrue (is_code c) → IsTrue (is_within_128 (pos c))
 code_within c h =
     let l : c < 2 ^ 32 = ltb-true c (2 ^ 32) h in lt-ltb c (2 ^ 127) (omega (arith, l))
 

@@ -34,3 +34,13 @@ from_some a b e = ap (λ o. elim o [ None ↦ a | Some x ↦ x ]) e
 
 pub none_is_none : {A B : Type 0} (a : A) → None ≡ Some a → B
 none_is_none a e = never (ap is_some e)
+
+-- all of them hold, in a form that names them
+pub record Holds (bs : List Bool) : Type 0 where
+  pub all : AllHold bs
+
+pub none_held : Holds []
+none_held = record { all = refl }
+
+pub together : {xs ys : List Bool} → Holds xs → Holds ys → Holds (xs ++ ys)
+together {xs} {ys} h k = record { all = hold_both xs ys h.all k.all }
