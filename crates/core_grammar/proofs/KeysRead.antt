@@ -31,7 +31,7 @@ map_there : (o : Option _) → is_some o ≡ true → is_some (constant_map o) �
 map_there None h = never h
 map_there (Some ts) h = refl
 
-bits_there : (o : Option (List Bool)) → IsTrue (elim o [ None ↦ false | Some bs ↦ true ]) → is_some (constant_bits o) ≡ true
+pub bits_there : (o : Option (List Bool)) → IsTrue (elim o [ None ↦ false | Some bs ↦ true ]) → is_some (constant_bits o) ≡ true
 bits_there None h = never h
 bits_there (Some ts) h = refl
 
@@ -90,7 +90,7 @@ mutual
       (pairs_there ps h.3)
 
 -- what stands as pairs of a key stands as pairs of a constant
-pairs_of_key : (ps : Pairs) → PairsStand key ps → PairsStand constant ps
+pub pairs_of_key : (ps : Pairs) → PairsStand key ps → PairsStand constant ps
 pairs_of_key no_pair h = tt
 pairs_of_key (pair t x u ps) h = (h.0, h.1, h.2, pairs_of_key ps h.3)
 

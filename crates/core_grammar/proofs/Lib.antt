@@ -5,3 +5,7 @@ pub mod Past
 pub mod Literals
 pub mod KeysRead
 pub mod Walk
+pub mod Names
+pub mod Shapes
+pub mod Binaries
+pub mod SourceTrees

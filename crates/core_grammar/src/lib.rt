@@ -16,10 +16,23 @@
 //! same tokens may begin several trees; a bracket before a clause is its own or its first pattern's until `when` or
 //! `-|` tells, and its depth counts as the less of the two.
 //!
-//! The public functions have no code: the contract of each names examples that tell the grammar from a wrong one.
+//! The public functions have no code: the contract of each is a law, or names examples that tell the grammar from a
+//! wrong one.
 #![tactic(auto)]
 
+ghost use Rattle.std.specs.Prelude.{List};
+ghost use Rattle.core_lex.specs.declared.token.Token.{Token};
+ghost use Rattle.core_form.specs.Core.{Module};
+ghost use Rattle.core_form.specs.SourceTree.{IsSourceTree};
+ghost use Rattle.core_grammar.specs.Texts.{ModuleText};
 ghost use Rattle.core_grammar.specs.Examples.{WrittenAsRead, StandsWhere, DeepAs, ReadsAs, TextExamples};
+
+/// What a text gives has the shape that sources have: the names and the arities of a text, what could be one constant is
+/// one, and a list goes on in no list.
+#[tactic(auto, using(crate::proofs::SourceTrees::texts_are_sources))]
+pub fn texts_give_source_trees()
+    ensures { (ts : List Token) (m : Module) → ModuleText ts m → IsSourceTree m }
+{}
 
 /// Each form stands where the grammar has it, and nowhere else.
 #[tactic(auto, using(crate::proofs::Computed::stands_where))]
