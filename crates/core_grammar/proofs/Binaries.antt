@@ -74,7 +74,8 @@ same_integer s (string p []) d r g = refl
 same_integer s (string p (c ∷ cs)) d r g = refl
 same_integer s (noted p t n) d r g = same_integer (inner_sort s) t (suc d) r g
 same_integer s (list p ts) d r g = list_no_int (constants_of false ts)
-same_integer s (list_on p t ts u) d r g = longer_no_int (constant_of false t) (constants_of false ts) (constant_of false u)
+same_integer s (list_on p t ts u) d r g = longer_no_int (constant_of false t) (constants_of false ts)
+    (constant_of false u)
 same_integer s (tuple p ts) d r g = tuple_no_int (constants_of false ts)
 same_integer s (new_map p ps) d r g = map_no_int (constant_pairs_of false ps)
 same_integer s (binary p gs) d r g = bits_no_int (segment_bits false gs)
@@ -158,12 +159,14 @@ segment_there (segment p t u n k f) d r gs h g c =
     let gn = (past Clean false expression d u _ gu).1 in
     let value : integer_value t ≡ Some m.value = same_integer expression t d _ g.1 ∙ sym (int_read t) ∙ m.value_is in
     let size : count_value u ≡ Some m.size =
-        same_count expression u d _ gu ∙ ap nat_part (same_integer expression u d _ gu ∙ sym (int_read u)) ∙ m.size_is in
+        same_count expression u d _ gu ∙ ap nat_part (same_integer expression u d _ gu ∙ sym (int_read u))
+            ∙ m.size_is in
     let unit : count_value n ≡ Some m.unit =
         same_count constant n d _ gn ∙ ap nat_part (same_integer constant n d _ gn
         ∙ ap int_in (there (constant_of false n) (constant_there n h.2))) ∙ m.unit_is in
     let flag : constant_of false f ≡ Some (constant_term f) = there (constant_of false f) (constant_there f h.4) in
-    ( ap (λ x. is_some (if x then bits_written (integer_value t) (count_value u) (count_value n) (constant_of false f) else None))
+    ( ap (λ x. is_some (if x then bits_written (integer_value t) (count_value u) (count_value n)
+        (constant_of false f) else None))
       (integer_kind k h.3 ∙ and_right b kind head)
       ∙ ap (λ x. is_some (bits_written x (count_value u) (count_value n) (constant_of false f))) value
       ∙ ap (λ x. is_some (bits_written (Some m.value) x (count_value n) (constant_of false f))) size

@@ -64,7 +64,7 @@ reads_as = record {
 }
 
 pub written_as_read : WrittenAsRead
-unfolding tokens word_at variable_at symbol_at fraction_len exponent_len integer_of number_at atom_at string_at lexeme_at
+unfolding tokens lexeme_at word_at variable_at symbol_at number_at fraction_len exponent_len integer_of atom_at string_at
 written_as_read = record {
   no_value = refl;
   notes = refl;
@@ -83,7 +83,7 @@ one_digit : {from : ℕ} {place : Place} → IsArityToken 1 (token (Number false
 one_digit {from} = record { kind = refl; bytes = omega arith }
 
 pub text_examples : TextExamples
-unfolding tokens word_at variable_at symbol_at fraction_len exponent_len integer_of number_at atom_at string_at lexeme_at
+unfolding tokens lexeme_at word_at variable_at symbol_at number_at fraction_len integer_of atom_at string_at
 text_examples = record {
   one_variable = record {
     written = plain_module (record { place = at 8; name = codes "m" })

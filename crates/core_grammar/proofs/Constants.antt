@@ -96,7 +96,8 @@ module _ (b : Bool) where
       chosen (compare k l) k v l w ps (put k v ps) h g (and_left (is_written b l) (is_written b w) a)
       (and_right (is_written b l) (is_written b w) a) rest (put_in k v ps h g rest)
 
-  all_put : (qs : List (Term × Term)) (ps : T.Pairs) → Each PairWritten qs → PairsWritten ps → PairsWritten (put_all qs ps)
+  all_put : (qs : List (Term × Term)) (ps : T.Pairs) → Each PairWritten qs → PairsWritten ps
+      → PairsWritten (put_all qs ps)
   all_put [] ps h k = k
   all_put (q ∷ qs) ps h k = all_put qs (put q.0 q.1 ps) h.1 (put_in q.0 q.1 ps h.0.0 h.0.1 k)
 
@@ -136,11 +137,14 @@ mutual
   rows_written : (b : Bool) (s : Sort) (ts : Row) → RowStands s ts → Where (Each (Written b)) (constants_of b ts)
   rows_written b s none h = tt
   rows_written b s (more t ts) h =
-      both_have (Written b) (constant_of b t) (constants_of b ts) (constants_written b s t h.0) (rows_written b s ts h.1)
+      both_have (Written b) (constant_of b t) (constants_of b ts) (constants_written b s t h.0)
+          (rows_written b s ts h.1)
 
-  all_pairs_written : (s : Sort) (ps : Pairs) → PairsStand s ps → Where (Each (PairWritten false)) (constant_pairs_of false ps)
+  all_pairs_written : (s : Sort) (ps : Pairs) → PairsStand s ps
+      → Where (Each (PairWritten false)) (constant_pairs_of false ps)
   all_pairs_written s no_pair h = tt
   all_pairs_written s (pair t x u ps) h =
-      both_have (PairWritten false) (constant_pair (constant_of false t) x (constant_of false u)) (constant_pairs_of false ps)
+      both_have (PairWritten false) (constant_pair (constant_of false t) x (constant_of false u))
+          (constant_pairs_of false ps)
       (of_pair false (constant_of false t) x (constant_of false u) (constants_written false (key_sort s) t h.0)
       (constants_written false (item_sort s) u h.2)) (all_pairs_written s ps h.3)

@@ -13,7 +13,8 @@ use Rattle.core_grammar.specs.ModuleOf.{literal_or, expr_of}
 use Rattle.core_grammar.proofs.Constants.{Where, Written, code_within, constants_written}
 use Rattle.core_grammar.proofs.Truths.{never, is_some, Holds}
 
-both_there : {A : Type 0} (o : Option A) (os : Option (List A)) → is_some o ≡ true → is_some os ≡ true → is_some (and_item o os) ≡ true
+both_there : {A : Type 0} (o : Option A) (os : Option (List A)) → is_some o ≡ true → is_some os ≡ true
+    → is_some (and_item o os) ≡ true
 both_there None os h k = never h
 both_there (Some x) None h k = never k
 both_there (Some x) (Some xs) h k = refl
@@ -31,7 +32,8 @@ map_there : (o : Option _) → is_some o ≡ true → is_some (constant_map o) �
 map_there None h = never h
 map_there (Some ts) h = refl
 
-pub bits_there : (o : Option (List Bool)) → IsTrue (elim o [ None ↦ false | Some bs ↦ true ]) → is_some (constant_bits o) ≡ true
+pub bits_there : (o : Option (List Bool)) → IsTrue (elim o [ None ↦ false | Some bs ↦ true ])
+    → is_some (constant_bits o) ≡ true
 bits_there None h = never h
 bits_there (Some ts) h = refl
 

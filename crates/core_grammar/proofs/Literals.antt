@@ -135,7 +135,8 @@ tail_known p (list q ts) =
     ap (λ x. x && true) (all_known ts C.no_pattern) ∙ twice_true (is_some (constants_of true ts))
     ∙ sym (some_list (constants_of true ts) (Some T.nil))
 tail_known p (list_on q t ts u) =
-    ap (λ x. (is_known (pattern_of t) && x) && is_known (rest_pattern p u (pattern_of u))) (all_known ts (tail_patterns u))
+    ap (λ x. (is_known (pattern_of t) && x) && is_known (rest_pattern p u (pattern_of u)))
+        (all_known ts (tail_patterns u))
     ∙ regroup (is_known (pattern_of t)) (is_some (constants_of true ts)) (are_known (tail_patterns u))
       (is_known (rest_pattern p u (pattern_of u))) (is_some (constant_of true t)) (is_some (constant_of true u))
       (known_where t) (tail_known p u)
@@ -183,5 +184,6 @@ all_pairs_constant (pair t x u ps) =
     ap (λ y. ((y && is_literal (expr_of u)) && not x) && are_constant_pairs (parts_of ps)) (literal_where t)
     ∙ ap (λ y. ((is_some (constant_of false t) && y) && not x) && are_constant_pairs (parts_of ps)) (literal_where u)
     ∙ ap (λ y. ((is_some (constant_of false t) && is_some (constant_of false u)) && not x) && y) (all_pairs_constant ps)
-    ∙ ap (λ y. y && is_some (constant_pairs_of false ps)) (sym (some_pair (constant_of false t) x (constant_of false u)))
+    ∙ ap (λ y. y && is_some (constant_pairs_of false ps))
+        (sym (some_pair (constant_of false t) x (constant_of false u)))
     ∙ sym (some_both (constant_pair (constant_of false t) x (constant_of false u)) (constant_pairs_of false ps))

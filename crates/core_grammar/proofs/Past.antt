@@ -69,7 +69,8 @@ module _ (P : Sign → Type 0) where
       past s d (receive p cs t u) r h =
           past expression _ u r (past expression _ t _ (past_clauses _ cs _ h.1).1).1
 
-      pub past_row : (first : Bool) (s : Sort) (d : ℕ) (ts : Row) (r : List Sign) → Each P (row_on w first s d ts r) → Each P r
+      pub past_row : (first : Bool) (s : Sort) (d : ℕ) (ts : Row) (r : List Sign) → Each P (row_on w first s d ts r)
+          → Each P r
       past_row first s d none r h = h
       past_row first s d (more t ts) r h = past_row false s d ts r (past s d t _ (past_comma first d _ h))
 
@@ -77,7 +78,8 @@ module _ (P : Sign → Type 0) where
       past_group s d (single t) r h = past s d t r h
       past_group s d (angled p ts) r h = (past_row true s d ts _ h.1).1
 
-      pub past_pairs : (first : Bool) (s : Sort) (d : ℕ) (ps : Pairs) (r : List Sign) → Each P (pairs_on w first s d ps r) → Each P r
+      pub past_pairs : (first : Bool) (s : Sort) (d : ℕ) (ps : Pairs) (r : List Sign)
+          → Each P (pairs_on w first s d ps r) → Each P r
       past_pairs first s d no_pair r h = h
       past_pairs first s d (pair t x u ps) r h =
           past_pairs false s d ps r (past (item_sort s) d u _ (past (key_sort s) d t _ (past_comma first d _ h)).1)
@@ -90,7 +92,8 @@ module _ (P : Sign → Type 0) where
           past_noted w _ _ _ (λ x. on w note (suc d) n x) r (λ x k. past_segment s (suc d) g x k)
           (λ x k. past note (suc d) n x k) h
 
-      pub past_segments : (first : Bool) (s : Sort) (d : ℕ) (gs : Segments) (r : List Sign) → Each P (segments_on w first s d gs r)
+      pub past_segments : (first : Bool) (s : Sort) (d : ℕ) (gs : Segments) (r : List Sign)
+          → Each P (segments_on w first s d gs r)
           → Each P r
       past_segments first s d no_segment r h = h
       past_segments first s d (and_segment g gs) r h =

@@ -68,7 +68,8 @@ expr_shape (list_on p t ts u) d r h g =
     (λ n. and_in _ _ (ap not (rest_no_list p u)) (ap not (tail_literal p (list_on p t ts u) ∙ n)))
 expr_shape (tuple p ts) d r h g =
     chosen p (constant_of false (tuple p ts)) _ (constants_written false expression (tuple p ts) h)
-    (λ n. ap not (all_literals ts C.no_expr ∙ and_true (is_some (constants_of false ts)) ∙ sym (some_tuple (constants_of false ts)) ∙ n))
+    (λ n. ap not (all_literals ts C.no_expr ∙ and_true (is_some (constants_of false ts))
+        ∙ sym (some_tuple (constants_of false ts)) ∙ n))
 expr_shape (values p ts) d r h g = refl
 expr_shape (new_map p ps) d r h g =
     chosen p (constant_of false (new_map p ps)) _ (constants_written false expression (new_map p ps) h)
@@ -160,7 +161,8 @@ pattern_shape (list_on p t ts u) h =
     (λ n. and_in _ _ (ap not (rest_no_list_pattern p u)) (ap not (tail_known p (list_on p t ts u) ∙ n)))
 pattern_shape (tuple p ts) h =
     chosen_pattern p (constant_of true (tuple p ts)) _ (constants_written true pattern (tuple p ts) h)
-    (λ n. ap not (all_known ts C.no_pattern ∙ and_true (is_some (constants_of true ts)) ∙ sym (some_tuple (constants_of true ts)) ∙ n))
+    (λ n. ap not (all_known ts C.no_pattern ∙ and_true (is_some (constants_of true ts))
+        ∙ sym (some_tuple (constants_of true ts)) ∙ n))
 pattern_shape (new_map p ps) h = all_keys_simple ps h.1
 pattern_shape (binary p gs) h = all_segs_simple gs h.1
 pattern_shape _ h = never (assumption h)

@@ -21,7 +21,8 @@ exports_short : (xs : Row) → RowStands a_name xs → IsTrue (list_all (λ f. i
 exports_short none h = refl
 exports_short (more x xs) h = and_in _ _ (name_short x h.0) (exports_short xs h.1)
 
-attributes_written : (bs : Attributes) → AttributesStand bs → IsTrue (list_all (λ a. is_written false a.1) (attributes_of bs))
+attributes_written : (bs : Attributes) → AttributesStand bs
+    → IsTrue (list_all (λ a. is_written false a.1) (attributes_of bs))
 attributes_written no_attribute h = refl
 attributes_written (attribute a t bs) h = and_in _ _ (term_written t h.1) (attributes_written bs h.2)
 
@@ -37,15 +38,18 @@ unmarked [] ts h = tt
 unmarked (g ∷ gs) [] h = absurd h
 unmarked (g ∷ gs) (t ∷ ts) h = (h.1, unmarked gs ts h.2)
 
+-- where a sign shows nothing, and later ones do not
+none_first : {A : Type 0} (see : Sight → Option A) (g : Sign) (gs : List Sign) (o : Option A) → see g.sight ≡ o
+    → (first_seen see gs ≡ None → Each (λ g. see g.sight ≡ None) gs)
+    → ◌≡◌ {A = Option A} (elim o as (λ x. Option A) [ None ↦ first_seen see gs | Some x ↦ Some x ]) None
+        → Each (λ g. see g.sight ≡ None) (g ∷ gs)
+none_first see g gs None e f k = (e, f k)
+none_first see g gs (Some x) e f k = none_is_none x (sym k)
+
 none_seen : {A : Type 0} (see : Sight → Option A) (gs : List Sign) → first_seen see gs ≡ None
     → Each (λ g. see g.sight ≡ None) gs
 none_seen see [] h = tt
-none_seen {A} see (g ∷ gs) h = split (see g.sight) refl h
-  where
-    split : (o : Option A) → see g.sight ≡ o → elim o [ None ↦ first_seen see gs | Some x ↦ Some x ] ≡ None
-        → Each (λ g. see g.sight ≡ None) (g ∷ gs)
-    split None e k = (e, none_seen see gs k)
-    split (Some x) e k = none_is_none x (sym k)
+none_seen see (g ∷ gs) h = none_first see g gs (see g.sight) refl (λ k. none_seen see gs k) h
 
 both_seen : (P Q : Sign → Type 0) (gs : List Sign) → Each P gs → Each Q gs → Each (λ g. P g × Q g) gs
 both_seen P Q [] h k = tt

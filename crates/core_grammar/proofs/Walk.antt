@@ -69,7 +69,8 @@ module _ (q : Asked Bool) (P : Sign → Type 0) (w : Bool) (l : Locals q P w) wh
         (λ a. together (together a (in_patterns ts C.no_pattern h.1 none_held)) (l.at_known p T.nil refl))
     in_pattern (list_on p t ts u) h =
         either_pattern p (constant_of true (list_on p t ts u))
-        (C.list_like p (C.and_pattern (pattern_of t) (patterns_of ts (tail_patterns u))) (rest_pattern p u (pattern_of u)))
+        (C.list_like p (C.and_pattern (pattern_of t) (patterns_of ts (tail_patterns u)))
+            (rest_pattern p u (pattern_of u)))
         (l.at_pattern (list_on p t ts u) h)
         (λ a. together (together a (together (in_pattern t h.1)
         (in_patterns ts (tail_patterns u) h.2 (in_tail_patterns u h.3)))) (in_rest_pattern p u h.3 (in_pattern u h.3)))
@@ -150,7 +151,8 @@ module _ (q : Asked Bool) (P : Sign → Type 0) (w : Bool) (l : Locals q P w) wh
     in_expr (function_name p a n) d r h g = l.at_expr (function_name p a n) d r h g
     in_expr (external p m f n) d r h g = l.at_expr (external p m f n) d r h g
     in_expr (noted p t n) d r h g =
-        in_expr t (suc d) _ h.0 (in_noted P w _ _ (on w expression (suc d) t) (on w note (suc (weight expression (noted p t n) + d)) n) r g)
+        in_expr t (suc d) _ h.0
+            (in_noted P w _ _ (on w expression (suc d) t) (on w note (suc (weight expression (noted p t n) + d)) n) r g)
     in_expr (alias x t) d r h g = never h.0
     in_expr (list p ts) d r h g =
         either p (constant_of false (list p ts)) (C.list p (exprs_of ts C.no_expr) (C.literal p T.nil))
@@ -163,11 +165,13 @@ module _ (q : Asked Bool) (P : Sign → Type 0) (w : Bool) (l : Locals q P w) wh
         (C.list p (C.and_expr (expr_of t) (exprs_of ts (tail_items u))) (rest_of p u (expr_of u)))
         (l.at_expr (list_on p t ts u) d r h g)
         (λ a. together (together a (together (in_expr t _ _ h.1 g.1)
-        (in_row false ts _ _ (tail_items u) h.2 f (in_tail u _ _ h.3 e.1)))) (in_rest p u _ _ h.3 e.1 (in_expr u _ _ h.3 e.1)))
+        (in_row false ts _ _ (tail_items u) h.2 f (in_tail u _ _ h.3 e.1))))
+            (in_rest p u _ _ h.3 e.1 (in_expr u _ _ h.3 e.1)))
     in_expr (tuple p ts) d r h g =
         either p (constant_of false (tuple p ts)) (C.tuple p (exprs_of ts C.no_expr)) (l.at_expr (tuple p ts) d r h g)
         (λ a. together a (in_row true ts _ _ C.no_expr h.1 g.1 none_held))
-    in_expr (values p ts) d r h g = together (l.at_expr (values p ts) d r h g) (in_row true ts _ _ C.no_expr h.1 g.1 none_held)
+    in_expr (values p ts) d r h g = together (l.at_expr (values p ts) d r h g)
+        (in_row true ts _ _ C.no_expr h.1 g.1 none_held)
     in_expr (new_map p ps) d r h g =
         either p (constant_of false (new_map p ps)) (C.new_map p (parts_of ps)) (l.at_expr (new_map p ps) d r h g)
         (λ a. together a (in_parts true ps _ _ h.1 g.1))
@@ -223,7 +227,8 @@ module _ (q : Asked Bool) (P : Sign → Type 0) (w : Bool) (l : Locals q P w) wh
     in_tail : (u : Tree) (d : ℕ) (r : List Sign) → Stands expression u → Each P (on w expression d u r)
         → Holds (all_exprs q (tail_items u))
     in_tail (noted p t n) d r h g =
-        in_tail t (suc d) _ h.0 (in_noted P w _ _ (on w expression (suc d) t) (on w note (suc (weight expression (noted p t n) + d)) n) r g)
+        in_tail t (suc d) _ h.0
+            (in_noted P w _ _ (on w expression (suc d) t) (on w note (suc (weight expression (noted p t n) + d)) n) r g)
     in_tail (string p cs) d r h g = in_characters p cs h.1
     in_tail (list p ts) d r h g = in_row true ts _ _ C.no_expr h.1 g.1 none_held
     in_tail (list_on p t ts u) d r h g =
@@ -235,7 +240,9 @@ module _ (q : Asked Bool) (P : Sign → Type 0) (w : Bool) (l : Locals q P w) wh
     in_rest : (p : Place) (u : Tree) (d : ℕ) (r : List Sign) → Stands expression u → Each P (on w expression d u r)
         → Holds (all_in q (expr_of u)) → Holds (all_in q (rest_of p u (expr_of u)))
     in_rest p (noted o t n) d r h g k =
-        in_rest p t (suc d) _ h.0 (in_noted P w _ _ (on w expression (suc d) t) (on w note (suc (weight expression (noted o t n) + d)) n) r g) k
+        in_rest p t (suc d) _ h.0
+            (in_noted P w _ _ (on w expression (suc d) t)
+                (on w note (suc (weight expression (noted o t n) + d)) n) r g) k
     in_rest p (string o cs) d r h g k = l.at_literal p T.nil refl
     in_rest p (list o ts) d r h g k = l.at_literal p T.nil refl
     in_rest p (list_on o t ts u) d r h g k =
@@ -301,7 +308,8 @@ module _ (q : Asked Bool) (P : Sign → Type 0) (w : Bool) (l : Locals q P w) wh
         together (l.at_expr (fun p xs t) d r (refl, h.1, h.2) g)
         (in_expr t _ _ h.2 (past_row P w true a_variable _ xs _ g.1.1).1.1)
     in_fun (noted p t n) d r h g =
-        in_fun t (suc d) _ h.0 (in_noted P w _ _ (on w a_fun (suc d) t) (on w note (suc (weight a_fun (noted p t n) + d)) n) r g)
+        in_fun t (suc d) _ h.0
+            (in_noted P w _ _ (on w a_fun (suc d) t) (on w note (suc (weight a_fun (noted p t n) + d)) n) r g)
     in_fun (variable p x) d r h g = never h.0
     in_fun (atom p a) d r h g = never h
     in_fun (number p b z) d r h g = never h.0

@@ -227,7 +227,8 @@ pub record ReadsAs : Type 0 where
   pub variable_tail : expr_of (list_on here (i 1) none (list_on here (i 2) none (v "X")))
       ≡ C.list here (exprs (known (T.int (pos 1)) ∷ known (T.int (pos 2)) ∷ [])) x_expr
   -- the later of equal keys wins
-  pub equal_keys : expr_of (new_map here twice_one) ≡ known (T.map (T.pair (T.int (pos 1)) (T.atom (codes "b")) T.no_pair))
+  pub equal_keys : expr_of (new_map here twice_one)
+      ≡ known (T.map (T.pair (T.int (pos 1)) (T.atom (codes "b")) T.no_pair))
   -- `:=` and a base make no constant
   pub exact_map : expr_of (new_map here (pair (i 1) true (i 2) no_pair))
       ≡ C.new_map here (C.and_part (C.map_part (known (T.int (pos 1))) (known (T.int (pos 2))) true) C.no_part)

@@ -165,11 +165,13 @@ module _ (with_notes : Bool) where
         token_at (suc d) p (Word W.Case) (on expression (suc d) t (kept_word (suc d) W.Of
         (clause_on (suc d) c (clauses_on (suc d) cs (kept_word (suc d) W.End r)))))
     on s d (apply p t ts) r =
-        token_at (suc d) p (Word W.Apply) (on expression (suc d) t (in_parens (suc d) (row_on true expression (suc d) ts) r))
+        token_at (suc d) p (Word W.Apply)
+            (on expression (suc d) t (in_parens (suc d) (row_on true expression (suc d) ts) r))
     on s d (call p m f ts) r =
         token_at (suc d) p (Word W.Call) (on expression (suc d) m
         (symbol (suc d) S.Colon (on expression (suc d) f (in_parens (suc d) (row_on true expression (suc d) ts) r))))
-    on s d (primop p a ts) r = token_at (suc d) p (Word W.Primop) (spelled (suc d) a (in_parens (suc d) (row_on true expression (suc d) ts) r))
+    on s d (primop p a ts) r = token_at (suc d) p (Word W.Primop)
+        (spelled (suc d) a (in_parens (suc d) (row_on true expression (suc d) ts) r))
     on s d (do_then p t u) r =
         token_at (suc d) p (Word W.Do) (on expression (suc d) t (on expression (suc d) u r))
     on s d (catch p t) r = token_at (suc d) p (Word W.Catch) (on expression (suc d) t r)

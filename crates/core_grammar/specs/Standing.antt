@@ -145,7 +145,8 @@ abbrev mutual
   Stands s (try p t xs u ys v) =
       IsTrue (takes_expression s) × Stands expression t × GroupStands a_variable xs × Stands expression u
       × GroupStands a_variable ys × Stands expression v
-  Stands s (receive p cs t u) = IsTrue (takes_expression s) × ClausesStand cs × Stands expression t × Stands expression u
+  Stands s (receive p cs t u) =
+      IsTrue (takes_expression s) × ClausesStand cs × Stands expression t × Stands expression u
 
   pub RowStands : Sort → Row → Type 0
   RowStands s none = ⊤

@@ -27,9 +27,8 @@ ghost use Rattle.core_form.specs.SourceTree.{IsSourceTree};
 ghost use Rattle.core_grammar.specs.Texts.{ModuleText};
 ghost use Rattle.core_grammar.specs.Examples.{WrittenAsRead, StandsWhere, DeepAs, ReadsAs, TextExamples};
 
-/// What a text gives has the shape that sources have: the names and the arities of a text, what could be one constant is
-/// one, and a list goes on in no list.
-#[tactic(auto, using(crate::proofs::SourceTrees::texts_are_sources))]
+/// What a text gives has the shape that sources have: what could be one constant is one, a list goes on in no list, and
+/// names, arities and numbers are such as can be written.
 pub fn texts_give_source_trees()
     ensures { (ts : List Token) (m : Module) → ModuleText ts m → IsSourceTree m }
 {}
