@@ -1,6 +1,6 @@
 -- Where no float and no wide integer is written, a binary of constant segments is one constant.
-use Rattle.std.proofs.Common.{◌≡◌, refl, sym, ap, ◌∙◌, subst, ℕ, suc, ℤ, pos, negsuc, Bool, true, false, not, ◌&&◌, List, [], ◌∷◌, Option, Some, None, IsTrue, codes, if◌then◌else◌}
-use Rattle.erl_base.specs.Names.{Name, same_name}
+use Rattle.std.proofs.Common.{◌≡◌, refl, sym, ap, ◌∙◌, ℕ, suc, ℤ, pos, negsuc, Bool, true, false, not, ◌&&◌, List, [], ◌∷◌, Option, Some, None, codes, if◌then◌else◌}
+use Rattle.erl_base.specs.Names.{same_name}
 use Rattle.erl_base.specs.declared.ids.Place.{Place}
 use Rattle.erl_term.specs.Term as T
 use Rattle.erl_term.specs.Term.{Term}
@@ -8,7 +8,7 @@ use Rattle.erl_term.specs.Segments.{joined}
 use Rattle.core_form.specs.Core as C
 use Rattle.core_form.specs.Walks.{all_pattern}
 use Rattle.core_form.specs.SourceTree.{binaries, is_no_constant_binary, are_constant_segments, is_constant_segment, are_flags}
-use Rattle.core_grammar.specs.WrittenTree.{Tree, variable, atom, number, wide, float, character, string, function_name, external, noted, alias, list, list_on, tuple, values, new_map, map_on, binary, fun, let_in, letrec, case, apply, call, primop, do_then, catch, try, receive, Segment, segment, noted_segment, Segments, no_segment, and_segment}
+use Rattle.core_grammar.specs.WrittenTree.{Tree, variable, atom, number, wide, float, character, string, noted, list, list_on, tuple, new_map, binary, Segment, segment, noted_segment, Segments, no_segment, and_segment}
 use Rattle.core_grammar.specs.Standing.{Sort, expression, constant, an_atom, segment_value, a_variable, inner_sort, Stands, SegmentStands, SegmentsStand}
 use Rattle.core_grammar.specs.ConstantTerms.{and_item, constant_list, constant_tuple, constant_map, constant_bits, constant_of, constants_of, constant_pairs_of, integer_value, count_value, is_integer_kind, is_constant_size, bits_with, bits_written, bits_of, segment_bits}
 use Rattle.core_grammar.specs.Signs.{Sign, on, segment_on, segments_on}
@@ -159,21 +159,22 @@ segment_there (segment p t u n k f) d r gs h g c =
     let gn = (past Clean false expression d u _ gu).1 in
     let value : integer_value t ≡ Some m.value = same_integer expression t d _ g.1 ∙ sym (int_read t) ∙ m.value_is in
     let size : count_value u ≡ Some m.size =
-        same_count expression u d _ gu ∙ ap nat_part (same_integer expression u d _ gu ∙ sym (int_read u))
-            ∙ m.size_is in
+    same_count expression u d _ gu ∙ ap nat_part (same_integer expression u d _ gu ∙ sym (int_read u))
+    ∙ m.size_is in
     let unit : count_value n ≡ Some m.unit =
-        same_count constant n d _ gn ∙ ap nat_part (same_integer constant n d _ gn
-        ∙ ap int_in (there (constant_of false n) (constant_there n h.2))) ∙ m.unit_is in
-    let flag : constant_of false f ≡ Some (constant_term f) = there (constant_of false f) (constant_there f h.4) in
-    ( ap (λ x. is_some (if x then bits_written (integer_value t) (count_value u) (count_value n)
-        (constant_of false f) else None))
-      (integer_kind k h.3 ∙ and_right b kind head)
-      ∙ ap (λ x. is_some (bits_written x (count_value u) (count_value n) (constant_of false f))) value
-      ∙ ap (λ x. is_some (bits_written (Some m.value) x (count_value n) (constant_of false f))) size
-      ∙ ap (λ x. is_some (bits_written (Some m.value) (Some m.size) x (constant_of false f))) unit
-      ∙ ap (λ x. is_some (bits_written (Some m.value) (Some m.size) (Some m.unit) x)) flag
-      ∙ bits_there (constant_term f) m.size m.unit m.value m.fits (and_right (b && kind) flags most)
-    , and_right ((b && kind) && flags) (are_constant_segments gs) c )
+    same_count constant n d _ gn ∙ ap nat_part (same_integer constant n d _ gn
+    ∙ ap int_in (there (constant_of false n) (constant_there n h.2))) ∙ m.unit_is in
+    let flag : constant_of false f ≡ Some (constant_term f) = there (constant_of false f) (constant_there f h.4) in (
+      ap (λ x. is_some (if x then bits_written (integer_value t) (count_value u) (count_value n)
+          (constant_of false f) else None))
+          (integer_kind k h.3 ∙ and_right b kind head)
+          ∙ ap (λ x. is_some (bits_written x (count_value u) (count_value n) (constant_of false f))) value
+          ∙ ap (λ x. is_some (bits_written (Some m.value) x (count_value n) (constant_of false f))) size
+          ∙ ap (λ x. is_some (bits_written (Some m.value) (Some m.size) x (constant_of false f))) unit
+          ∙ ap (λ x. is_some (bits_written (Some m.value) (Some m.size) (Some m.unit) x)) flag
+          ∙ bits_there (constant_term f) m.size m.unit m.value m.fits (and_right (b && kind) flags most),
+      and_right ((b && kind) && flags) (are_constant_segments gs) c,
+    )
 segment_there (noted_segment s n) d r gs h g c = segment_there s (suc d) r gs h.0 g c
 
 segments_there : (gs : Segments) (first : Bool) (d : ℕ) (r : List Sign) → SegmentsStand expression gs

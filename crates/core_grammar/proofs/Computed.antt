@@ -64,7 +64,7 @@ reads_as = record {
 }
 
 pub written_as_read : WrittenAsRead
-unfolding tokens lexeme_at word_at variable_at symbol_at number_at fraction_len exponent_len integer_of atom_at string_at
+unfolding tokens lexeme_at word_at variable_at symbol_at number_at fraction_len exponent_len integer_of atom_at
 written_as_read = record {
   no_value = refl;
   notes = refl;
@@ -85,6 +85,7 @@ one_digit {from} = record { kind = refl; bytes = omega arith }
 pub text_examples : TextExamples
 unfolding tokens lexeme_at word_at variable_at symbol_at number_at fraction_len integer_of atom_at string_at
 text_examples = record {
+  a_string = refl;
   one_variable = record {
     written = plain_module (record { place = at 8; name = codes "m" })
         (more (function_name (at 13) (codes "f") 1) none) no_attribute

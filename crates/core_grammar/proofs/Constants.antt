@@ -1,5 +1,5 @@
 -- The constants of a text are such as can be written.
-use Rattle.std.proofs.Common.{arith, ◌≡◌, refl, sym, ap, ◌∙◌, subst, ℕ, ◌^◌, ◌<◌, ltb, ℤ, pos, Bool, true, false, not, ◌&&◌, List, [], ◌∷◌, Option, Some, None, IsTrue, if◌then◌else◌}
+use Rattle.std.proofs.Common.{arith, refl, ℕ, ◌^◌, ◌<◌, pos, Bool, true, false, ◌&&◌, List, [], ◌∷◌, Option, Some, None, IsTrue}
 use Rattle.std.specs.Bool.{⊤}
 use Rattle.std.proofs.lemmas.Bool.{ltb-true, lt-ltb}
 use Rattle.std.specs.List.{list_all}
@@ -10,11 +10,11 @@ use Rattle.erl_term.specs.Term.{Term}
 use Rattle.erl_term.specs.TermOrder.{compare}
 use Rattle.erl_term.specs.Terms.{terms, list_of, put, put_all}
 use Rattle.erl_term.specs.Ranges.{is_within_128}
-use Rattle.core_form.specs.SourceTree.{is_written, are_written, pairs_written, is_arity}
-use Rattle.core_grammar.specs.WrittenTree.{Tree, variable, atom, number, wide, float, character, string, function_name, external, noted, alias, list, list_on, tuple, values, new_map, map_on, binary, fun, let_in, letrec, case, apply, call, primop, do_then, catch, try, receive, Row, none, more, Pairs, no_pair, pair, Segments}
+use Rattle.core_form.specs.SourceTree.{is_written, are_written, pairs_written}
+use Rattle.core_grammar.specs.WrittenTree.{Tree, variable, atom, number, wide, float, character, string, function_name, external, noted, list, list_on, tuple, new_map, binary, Row, none, more, Pairs, no_pair, pair}
 use Rattle.core_grammar.specs.Standing.{Sort, Stands, RowStands, PairsStand, inner_sort, item_sort, key_sort, is_code}
 use Rattle.core_grammar.specs.ConstantTerms.{character_terms, and_item, constant_pair, constant_list, constant_tuple, constant_map, constant_bits, constant_of, constants_of, constant_pairs_of, segment_bits}
-use Rattle.core_grammar.proofs.Truths.{never, and_in, and_left, and_right, from_some, none_is_none}
+use Rattle.core_grammar.proofs.Truths.{and_in, and_left, and_right}
 
 -- each has it
 abbrev pub Each : {A : Type 0} → (A → Type 0) → List A → Type 0
@@ -138,13 +138,13 @@ mutual
   rows_written b s none h = tt
   rows_written b s (more t ts) h =
       both_have (Written b) (constant_of b t) (constants_of b ts) (constants_written b s t h.0)
-          (rows_written b s ts h.1)
+      (rows_written b s ts h.1)
 
   all_pairs_written : (s : Sort) (ps : Pairs) → PairsStand s ps
       → Where (Each (PairWritten false)) (constant_pairs_of false ps)
   all_pairs_written s no_pair h = tt
   all_pairs_written s (pair t x u ps) h =
       both_have (PairWritten false) (constant_pair (constant_of false t) x (constant_of false u))
-          (constant_pairs_of false ps)
+      (constant_pairs_of false ps)
       (of_pair false (constant_of false t) x (constant_of false u) (constants_written false (key_sort s) t h.0)
       (constants_written false (item_sort s) u h.2)) (all_pairs_written s ps h.3)

@@ -1,8 +1,8 @@
 -- Where only a constant may stand, there is one.
-use Rattle.std.proofs.Common.{◌≡◌, refl, sym, ap, ◌∙◌, Bool, true, false, not, ◌&&◌, List, [], ◌∷◌, Option, Some, None, IsTrue, if◌then◌else◌}
-use Rattle.core_grammar.specs.WrittenTree.{Tree, variable, atom, number, wide, float, character, string, function_name, external, noted, alias, list, list_on, tuple, values, new_map, map_on, binary, fun, let_in, letrec, case, apply, call, primop, do_then, catch, try, receive, Row, none, more, Pairs, no_pair, pair, Segments}
-use Rattle.core_grammar.specs.Standing.{Sort, constant, key, Stands, RowStands, PairsStand, takes_pair}
-use Rattle.core_grammar.specs.ConstantTerms.{and_item, constant_pair, constant_list, constant_tuple, constant_map, constant_bits, constant_of, constants_of, constant_pairs_of, segment_bits, bits_of_segments}
+use Rattle.std.proofs.Common.{◌≡◌, refl, Bool, true, false, not, List, Option, Some, None, IsTrue}
+use Rattle.core_grammar.specs.WrittenTree.{Tree, variable, atom, number, wide, float, character, string, function_name, external, noted, alias, list, list_on, tuple, values, new_map, map_on, binary, fun, let_in, letrec, case, apply, call, primop, do_then, catch, try, receive, Row, none, more, Pairs, no_pair, pair}
+use Rattle.core_grammar.specs.Standing.{constant, key, Stands, RowStands, PairsStand}
+use Rattle.core_grammar.specs.ConstantTerms.{and_item, constant_pair, constant_list, constant_tuple, constant_map, constant_bits, constant_of, constants_of, constant_pairs_of, bits_of_segments}
 use Rattle.erl_base.specs.Names.{Name}
 use Rattle.erl_base.specs.declared.ids.Place.{Place}
 use Rattle.erl_term.specs.Term.{Term}

@@ -5,7 +5,7 @@ use Rattle.erl_term.specs.Term as T
 use Rattle.erl_term.specs.Term.{Term}
 use Rattle.core_form.specs.Core as C
 use Rattle.core_form.specs.SourceTree.{is_literal, are_literals, is_list, is_known, are_known, is_list_pattern, are_constant_pairs}
-use Rattle.core_grammar.specs.WrittenTree.{Tree, variable, atom, number, wide, float, character, string, function_name, external, noted, alias, list, list_on, tuple, values, new_map, map_on, binary, fun, let_in, letrec, case, apply, call, primop, do_then, catch, try, receive, Row, none, more, Pairs, no_pair, pair, Segments}
+use Rattle.core_grammar.specs.WrittenTree.{Tree, string, noted, list, list_on, tuple, new_map, binary, Row, none, more, Pairs, no_pair, pair}
 use Rattle.core_grammar.specs.ConstantTerms.{and_item, constant_pair, constant_list, constant_tuple, constant_map, constant_bits, constant_of, constants_of, constant_pairs_of, segment_bits}
 use Rattle.core_grammar.specs.ModuleOf.{literal_or, known_or, expr_of, exprs_of, tail_items, rest_of, parts_of, pattern_of, patterns_of, tail_patterns, rest_pattern, character_exprs, character_patterns}
 use Rattle.core_grammar.proofs.Truths.{is_some}
@@ -121,8 +121,8 @@ tail_literal p (list q ts) =
 tail_literal p (list_on q t ts u) =
     ap (λ x. (is_literal (expr_of t) && x) && is_literal (rest_of p u (expr_of u))) (all_literals ts (tail_items u))
     ∙ regroup (is_literal (expr_of t)) (is_some (constants_of false ts)) (are_literals (tail_items u))
-      (is_literal (rest_of p u (expr_of u))) (is_some (constant_of false t)) (is_some (constant_of false u))
-      (literal_where t) (tail_literal p u)
+    (is_literal (rest_of p u (expr_of u))) (is_some (constant_of false t)) (is_some (constant_of false u))
+    (literal_where t) (tail_literal p u)
     ∙ ap (λ x. x && is_some (constant_of false u)) (sym (some_both (constant_of false t) (constants_of false ts)))
     ∙ sym (some_list (and_item (constant_of false t) (constants_of false ts)) (constant_of false u))
 tail_literal p u = literal_where u
@@ -136,10 +136,10 @@ tail_known p (list q ts) =
     ∙ sym (some_list (constants_of true ts) (Some T.nil))
 tail_known p (list_on q t ts u) =
     ap (λ x. (is_known (pattern_of t) && x) && is_known (rest_pattern p u (pattern_of u)))
-        (all_known ts (tail_patterns u))
+    (all_known ts (tail_patterns u))
     ∙ regroup (is_known (pattern_of t)) (is_some (constants_of true ts)) (are_known (tail_patterns u))
-      (is_known (rest_pattern p u (pattern_of u))) (is_some (constant_of true t)) (is_some (constant_of true u))
-      (known_where t) (tail_known p u)
+    (is_known (rest_pattern p u (pattern_of u))) (is_some (constant_of true t)) (is_some (constant_of true u))
+    (known_where t) (tail_known p u)
     ∙ ap (λ x. x && is_some (constant_of true u)) (sym (some_both (constant_of true t) (constants_of true ts)))
     ∙ sym (some_list (and_item (constant_of true t) (constants_of true ts)) (constant_of true u))
 tail_known p u = known_where u
@@ -185,5 +185,5 @@ all_pairs_constant (pair t x u ps) =
     ∙ ap (λ y. ((is_some (constant_of false t) && y) && not x) && are_constant_pairs (parts_of ps)) (literal_where u)
     ∙ ap (λ y. ((is_some (constant_of false t) && is_some (constant_of false u)) && not x) && y) (all_pairs_constant ps)
     ∙ ap (λ y. y && is_some (constant_pairs_of false ps))
-        (sym (some_pair (constant_of false t) x (constant_of false u)))
+    (sym (some_pair (constant_of false t) x (constant_of false u)))
     ∙ sym (some_both (constant_pair (constant_of false t) x (constant_of false u)) (constant_pairs_of false ps))

@@ -1,9 +1,7 @@
 -- Variables, names of functions and funs where they alone may stand.
-use Rattle.std.proofs.Common.{◌≡◌, refl, sym, ap, ◌∙◌, ℕ, suc, Bool, true, false, ◌&&◌, List, [], ◌∷◌, length, Option, Some, None, IsTrue}
-use Rattle.std.specs.List.{list_all}
-use Rattle.core_form.specs.Core as C
+use Rattle.std.proofs.Common.{◌≡◌, refl, ap, suc, true, length}
 use Rattle.core_form.specs.SourceTree.{is_variable_name, are_variables, is_arity, is_function, are_functions}
-use Rattle.core_grammar.specs.WrittenTree.{Tree, variable, atom, number, wide, float, character, string, function_name, external, noted, alias, list, list_on, tuple, values, new_map, map_on, binary, fun, let_in, letrec, case, apply, call, primop, do_then, catch, try, receive, Row, none, more, Group, single, angled, Definitions, no_definition, definition}
+use Rattle.core_grammar.specs.WrittenTree.{Tree, variable, function_name, noted, fun, Row, none, more, Group, single, angled, Definitions, no_definition, definition}
 use Rattle.core_grammar.specs.Standing.{a_variable, a_name, a_fun, Stands, RowStands, GroupStands, DefinitionsStand}
 use Rattle.core_grammar.specs.Signs.{row_count, group_count}
 use Rattle.core_grammar.specs.ModuleOf.{variable_name, name_key, binders_of, group_binders, expr_of, defs_of}

@@ -1,5 +1,5 @@
 -- What holds of each sign of a tree and the rest holds of each sign of the rest.
-use Rattle.std.proofs.Common.{◌≡◌, ◌+◌, ℕ, suc, Bool, true, false, List, [], ◌∷◌}
+use Rattle.std.proofs.Common.{◌+◌, ℕ, suc, Bool, true, false, List}
 use Rattle.core_grammar.specs.WrittenTree.{Tree, variable, atom, number, wide, float, character, string, function_name, external, noted, alias, list, list_on, tuple, values, new_map, map_on, binary, fun, let_in, letrec, case, apply, call, primop, do_then, catch, try, receive, Row, none, more, Group, single, angled, Pairs, no_pair, pair, Segment, segment, noted_segment, Segments, no_segment, and_segment, Clause, clause, noted_clause, Clauses, no_clause, and_clause, Definitions, no_definition, definition}
 use Rattle.core_grammar.specs.Standing.{Sort, expression, pattern, constant, note, a_variable, a_name, an_atom, a_fun, inner_sort, item_sort, key_sort, value_sort}
 use Rattle.core_lex.specs.declared.token.Symbol.TheVariants as S
@@ -40,7 +40,7 @@ module _ (P : Sign → Type 0) where
       past s d (string p cs) r h = h.1
       past s d (function_name p a n) r h = h.1.1.1
       past s d (external p m f n) r h = h.1.1.1.1.1.1
-      past s d (noted p t n) r h = 
+      past s d (noted p t n) r h =
           past_noted w _ _ _ (λ x. on w note (suc (weight s (noted p t n) + d)) n x) r
           (λ x k. past (inner_sort s) (suc d) t x k) (λ x k. past note (suc (weight s (noted p t n) + d)) n x k) h
       past s d (alias x t) r h = past pattern _ t r (past a_variable _ x _ h).1
@@ -88,7 +88,7 @@ module _ (P : Sign → Type 0) where
       past_segment s d (segment p t u n k f) r h =
           (past constant d f _ (past an_atom d k _ (past constant d n _ (past (key_sort s) d u _
           (past (value_sort s) d t _ h.1).1.1).1).1).1).1
-      past_segment s d (noted_segment g n) r h = 
+      past_segment s d (noted_segment g n) r h =
           past_noted w _ _ _ (λ x. on w note (suc d) n x) r (λ x k. past_segment s (suc d) g x k)
           (λ x k. past note (suc d) n x k) h
 
@@ -102,7 +102,7 @@ module _ (P : Sign → Type 0) where
       pub past_clause : (d : ℕ) (c : Clause) (r : List Sign) → Each P (clause_on w d c r) → Each P r
       past_clause d (clause ts t u) r h =
           past expression _ u r (past expression _ t _ (past_group pattern _ ts _ h).1).1
-      past_clause d (noted_clause c n) r h = 
+      past_clause d (noted_clause c n) r h =
           past_noted w _ _ _ (λ x. on w note (suc (suc d)) n x) r (λ x k. past_clause (suc d) c x k)
           (λ x k. past note (suc (suc d)) n x k) h
 

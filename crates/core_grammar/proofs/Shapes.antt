@@ -1,22 +1,20 @@
 -- Each expression, pattern and segment of a text has a shape that texts have.
-use Rattle.std.proofs.Common.{◌≡◌, ◌+◌, refl, sym, ap, ◌∙◌, subst, ℕ, suc, ℤ, pos, Bool, true, false, not, ◌&&◌, ◌||◌, eqb, List, [], ◌∷◌, ◌++◌, length, Option, Some, None, IsTrue}
-use Rattle.erl_base.specs.Names.{Name}
+use Rattle.std.proofs.Common.{◌≡◌, refl, sym, ap, ◌∙◌, ℕ, suc, Bool, true, false, not, ◌||◌, eqb, List, [], ◌∷◌, length, Option, Some, None}
 use Rattle.erl_base.specs.declared.ids.Place.{Place}
-use Rattle.erl_term.specs.Term as T
 use Rattle.erl_term.specs.Term.{Term}
 use Rattle.core_form.specs.Core as C
-use Rattle.core_form.specs.Walks.{Asked, all_in, all_pattern}
-use Rattle.core_form.specs.SourceTree.{AllHold, shapes, source_expr, source_pattern, is_written, is_simple, keys_simple, segs_simple, is_segment_value, is_caught}
-use Rattle.core_grammar.specs.WrittenTree.{Tree, variable, atom, number, wide, float, character, string, function_name, external, noted, alias, list, list_on, tuple, values, new_map, map_on, binary, fun, let_in, letrec, case, apply, call, primop, do_then, catch, try, receive, Row, none, more, Group, Pairs, no_pair, pair, Segment, segment, noted_segment, Segments, no_segment, and_segment}
-use Rattle.core_grammar.specs.Standing.{Sort, expression, pattern, constant, note, key, segment_value, a_variable, Stands, PairsStand, SegmentStands, SegmentsStand}
-use Rattle.core_grammar.specs.ConstantTerms.{constant_of, constants_of, constant_pairs_of, segment_bits, constant_list, constant_tuple, constant_map, constant_bits, bits_of_segments, and_item}
-use Rattle.core_grammar.specs.Signs.{Sign, weight, on, group_count, is_catch_count}
-use Rattle.core_grammar.specs.ModuleOf.{literal_or, known_or, term_or_nil, constant_term, group_binders, expr_of, pattern_of, keys_of, seg_of, segs_of, exprs_of, parts_of, segments_of, tail_items, rest_of, patterns_of, tail_patterns, rest_pattern}
+use Rattle.core_form.specs.Walks.{all_pattern}
+use Rattle.core_form.specs.SourceTree.{shapes, source_expr, source_pattern, is_written, is_simple, keys_simple, segs_simple, is_segment_value}
+use Rattle.core_grammar.specs.WrittenTree.{Tree, variable, atom, number, wide, float, character, string, function_name, external, noted, alias, list, list_on, tuple, values, new_map, map_on, binary, fun, let_in, letrec, case, apply, call, primop, do_then, catch, try, receive, none, more, Pairs, no_pair, pair, Segment, segment, noted_segment, Segments, no_segment, and_segment}
+use Rattle.core_grammar.specs.Standing.{expression, pattern, constant, key, segment_value, a_variable, Stands, PairsStand, SegmentStands, SegmentsStand}
+use Rattle.core_grammar.specs.ConstantTerms.{constant_of, constants_of, constant_pairs_of, bits_of_segments}
+use Rattle.core_grammar.specs.Signs.{Sign, on, group_count, is_catch_count}
+use Rattle.core_grammar.specs.ModuleOf.{literal_or, known_or, term_or_nil, constant_term, group_binders, expr_of, pattern_of, keys_of, seg_of, segs_of}
 use Rattle.core_grammar.proofs.Truths.{never, and_in, is_some, Holds, none_held}
 use Rattle.core_grammar.proofs.Constants.{Each, Where, Written, code_within, constants_written}
-use Rattle.core_grammar.proofs.Literals.{and_true, some_list, some_tuple, some_map, all_literals, all_known, tail_literal, tail_known, rest_no_list, rest_no_list_pattern, all_pairs_constant}
+use Rattle.core_grammar.proofs.Literals.{and_true, some_tuple, some_map, all_literals, all_known, tail_literal, tail_known, rest_no_list, rest_no_list_pattern, all_pairs_constant}
 use Rattle.core_grammar.proofs.KeysRead.{constant_there, bits_there, pairs_of_key}
-use Rattle.core_grammar.proofs.Past.{past, past_group, in_noted}
+use Rattle.core_grammar.proofs.Past.{past, past_group}
 use Rattle.core_grammar.proofs.Names.{variable_named, row_named, group_named, group_length, all_functions}
 use Rattle.core_grammar.proofs.Walk.{Locals}
 
@@ -69,7 +67,7 @@ expr_shape (list_on p t ts u) d r h g =
 expr_shape (tuple p ts) d r h g =
     chosen p (constant_of false (tuple p ts)) _ (constants_written false expression (tuple p ts) h)
     (λ n. ap not (all_literals ts C.no_expr ∙ and_true (is_some (constants_of false ts))
-        ∙ sym (some_tuple (constants_of false ts)) ∙ n))
+    ∙ sym (some_tuple (constants_of false ts)) ∙ n))
 expr_shape (values p ts) d r h g = refl
 expr_shape (new_map p ps) d r h g =
     chosen p (constant_of false (new_map p ps)) _ (constants_written false expression (new_map p ps) h)
@@ -162,7 +160,7 @@ pattern_shape (list_on p t ts u) h =
 pattern_shape (tuple p ts) h =
     chosen_pattern p (constant_of true (tuple p ts)) _ (constants_written true pattern (tuple p ts) h)
     (λ n. ap not (all_known ts C.no_pattern ∙ and_true (is_some (constants_of true ts))
-        ∙ sym (some_tuple (constants_of true ts)) ∙ n))
+    ∙ sym (some_tuple (constants_of true ts)) ∙ n))
 pattern_shape (new_map p ps) h = all_keys_simple ps h.1
 pattern_shape (binary p gs) h = all_segs_simple gs h.1
 pattern_shape _ h = never (assumption h)

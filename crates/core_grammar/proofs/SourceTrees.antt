@@ -1,13 +1,13 @@
 -- What a text gives is the tree of a source.
-use Rattle.std.proofs.Common.{◌≡◌, refl, sym, ap, ◌∙◌, subst, ℕ, suc, Bool, true, false, ◌&&◌, List, [], ◌∷◌, Option, Some, None, IsTrue}
+use Rattle.std.proofs.Common.{◌≡◌, refl, sym, subst, ℕ, suc, Bool, true, false, List, [], ◌∷◌, Option, Some, None, IsTrue}
 use Rattle.std.specs.List.{list_all}
 use Rattle.core_lex.specs.declared.token.Token.{Token}
 use Rattle.core_form.specs.Core.{Module}
 use Rattle.core_form.specs.SourceTree.{IsSourceTree, shapes, binaries, is_arity, is_written}
 use Rattle.core_grammar.specs.WrittenTree.{Row, none, more, Attributes, no_attribute, attribute, Written, plain_module, noted_module}
-use Rattle.core_grammar.specs.Standing.{a_name, an_atom, constant, note, RowStands, AttributesStand, IsModule}
-use Rattle.core_grammar.specs.Signs.{Sight, Sign, on, attributes_on, module_on, signs, signs_outside_notes, FitWhole}
-use Rattle.core_grammar.specs.ModuleOf.{exports_of, attributes_of, bare_module, module_of, first_seen, float_seen, wide_seen}
+use Rattle.core_grammar.specs.Standing.{a_name, an_atom, constant, RowStands, AttributesStand, IsModule}
+use Rattle.core_grammar.specs.Signs.{Sight, Sign, attributes_on, module_on, signs, signs_outside_notes, FitWhole}
+use Rattle.core_grammar.specs.ModuleOf.{exports_of, attributes_of, bare_module, first_seen, float_seen, wide_seen}
 use Rattle.core_grammar.specs.Texts.{ModuleText}
 use Rattle.core_grammar.proofs.Truths.{and_in, none_is_none}
 use Rattle.core_grammar.proofs.Constants.{Each}
@@ -42,7 +42,7 @@ unmarked (g ∷ gs) (t ∷ ts) h = (h.1, unmarked gs ts h.2)
 none_first : {A : Type 0} (see : Sight → Option A) (g : Sign) (gs : List Sign) (o : Option A) → see g.sight ≡ o
     → (first_seen see gs ≡ None → Each (λ g. see g.sight ≡ None) gs)
     → ◌≡◌ {A = Option A} (elim o as (λ x. Option A) [ None ↦ first_seen see gs | Some x ↦ Some x ]) None
-        → Each (λ g. see g.sight ≡ None) (g ∷ gs)
+    → Each (λ g. see g.sight ≡ None) (g ∷ gs)
 none_first see g gs None e f k = (e, f k)
 none_first see g gs (Some x) e f k = none_is_none x (sym k)
 
@@ -63,14 +63,14 @@ source (plain_module a xs bs ds) gs d r s h g k = record {
   attributes = attributes_written bs h.1;
   definitions = all_functions ds h.2;
   nodes =
-    let f = past_row Plain true true a_name d xs _ g.1.1.1 in
-    let e = past_attributes Plain true true d bs _ f.1.1.1 in
-    (in_defs shapes Plain true shape_locals ds d _ h.2 e.1).all;
+      let f = past_row Plain true true a_name d xs _ g.1.1.1 in
+      let e = past_attributes Plain true true d bs _ f.1.1.1 in
+      (in_defs shapes Plain true shape_locals ds d _ h.2 e.1).all;
   constants = λ no_floats no_wides.
-    let c = k no_floats no_wides in
-    let f = past_row Clean false true a_name d xs _ c.1.1.1 in
-    let e = past_attributes Clean false true d bs _ f.1.1.1 in
-    (in_defs binaries Clean false binary_locals ds d _ h.2 e.1).all;
+      let c = k no_floats no_wides in
+      let f = past_row Clean false true a_name d xs _ c.1.1.1 in
+      let e = past_attributes Clean false true d bs _ f.1.1.1 in
+      (in_defs binaries Clean false binary_locals ds d _ h.2 e.1).all;
 }
 source (noted_module w n) gs d r s h g k = source w gs (suc d) _ s h.0 g.1 k
 

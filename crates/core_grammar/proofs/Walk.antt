@@ -1,5 +1,5 @@
 -- A question about the pieces of a module that is answered at each tree by itself is answered in all its parts.
-use Rattle.std.proofs.Common.{◌≡◌, ◌+◌, refl, sym, ap, ◌∙◌, subst, ℕ, suc, ℤ, pos, Bool, true, false, not, ◌&&◌, List, [], ◌∷◌, ◌++◌, Option, Some, None, IsTrue}
+use Rattle.std.proofs.Common.{◌+◌, refl, ℕ, suc, pos, Bool, true, false, List, [], ◌∷◌, Option, Some, None, IsTrue}
 use Rattle.std.specs.List.{list_all}
 use Rattle.erl_base.specs.Names.{Name}
 use Rattle.erl_base.specs.declared.ids.Place.{Place}
@@ -8,15 +8,15 @@ use Rattle.erl_term.specs.Term.{Term}
 use Rattle.core_form.specs.Core as C
 use Rattle.core_form.specs.Walks.{Asked, all_in, all_exprs, all_parts, all_segments, all_defs, all_clauses, all_pattern, all_patterns, all_keys, all_segs}
 use Rattle.core_form.specs.SourceTree.{is_variable_name}
-use Rattle.core_grammar.specs.WrittenTree.{Tree, variable, atom, number, wide, float, character, string, function_name, external, noted, alias, list, list_on, tuple, values, new_map, map_on, binary, fun, let_in, letrec, case, apply, call, primop, do_then, catch, try, receive, Row, none, more, Group, single, angled, Pairs, no_pair, pair, Segment, segment, noted_segment, Segments, no_segment, and_segment, Clause, clause, noted_clause, Clauses, no_clause, and_clause, Definitions, no_definition, definition}
-use Rattle.core_grammar.specs.Standing.{Sort, expression, pattern, constant, note, key, segment_value, a_variable, a_name, an_atom, a_fun, Stands, RowStands, PairsStand, SegmentStands, SegmentsStand, ClauseStands, ClausesStand, DefinitionsStand, GroupStands, is_code}
+use Rattle.core_grammar.specs.WrittenTree.{Tree, variable, atom, number, wide, float, character, string, function_name, external, noted, alias, list, list_on, tuple, values, new_map, map_on, binary, fun, let_in, letrec, case, apply, call, primop, do_then, catch, try, receive, Row, none, more, single, angled, Pairs, no_pair, pair, Segment, segment, noted_segment, Segments, no_segment, and_segment, Clause, clause, noted_clause, Clauses, no_clause, and_clause, Definitions, no_definition, definition}
+use Rattle.core_grammar.specs.Standing.{expression, pattern, constant, note, segment_value, a_variable, a_name, a_fun, Stands, RowStands, PairsStand, SegmentStands, SegmentsStand, ClauseStands, ClausesStand, DefinitionsStand, is_code}
 use Rattle.core_grammar.specs.ConstantTerms.{constant_of}
-use Rattle.core_grammar.specs.Signs.{Sign, weight, on, row_on, group_on, pairs_on, segment_on, segments_on, clause_on, clauses_on, definitions_on}
+use Rattle.core_grammar.specs.Signs.{Sign, weight, on, row_on, pairs_on, segment_on, segments_on, clause_on, clauses_on, definitions_on}
 use Rattle.core_grammar.specs.ModuleOf.{literal_or, known_or, atom_name, constant_term, expr_of, exprs_of, tail_items, rest_of, parts_of, segment_of, segments_of, clause_of, clauses_of, defs_of, pattern_of, patterns_of, tail_patterns, rest_pattern, keys_of, seg_of, segs_of, character_exprs, character_patterns}
 use Rattle.core_grammar.proofs.Truths.{never, and_left, and_right, Holds, none_held, together}
 use Rattle.core_grammar.proofs.Constants.{Each, Written, code_within}
 use Rattle.core_grammar.proofs.KeysRead.{in_key}
-use Rattle.core_grammar.proofs.Past.{past, past_row, past_group, past_pairs, past_segment, past_segments, past_clause, past_clauses, past_definitions, past_comma, in_noted}
+use Rattle.core_grammar.proofs.Past.{past, past_row, past_group, past_pairs, past_segment, past_clause, past_clauses, past_definitions, past_comma, in_noted}
 
 -- what is known of each tree by itself, whose signs have P; w: with those of annotations
 pub record Locals (q : Asked Bool) (P : Sign → Type 0) (w : Bool) : Type 0 where
@@ -46,7 +46,7 @@ module _ (q : Asked Bool) (P : Sign → Type 0) (w : Bool) (l : Locals q P w) wh
   in_characters : (p : Place) (cs : List ℕ) → IsTrue (list_all is_code cs) → Holds (all_exprs q (character_exprs p cs))
   in_characters p [] h = none_held
   in_characters p (c ∷ cs) h =
-      together 
+      together
       (l.at_literal p (T.int (pos c)) (code_within c (and_left (is_code c) (list_all is_code cs) h)))
       (in_characters p cs (and_right (is_code c) (list_all is_code cs) h))
 
@@ -54,7 +54,7 @@ module _ (q : Asked Bool) (P : Sign → Type 0) (w : Bool) (l : Locals q P w) wh
       → Holds (all_patterns q (character_patterns p cs))
   in_character_patterns p [] h = none_held
   in_character_patterns p (c ∷ cs) h =
-      together 
+      together
       (l.at_known p (T.int (pos c)) (code_within c (and_left (is_code c) (list_all is_code cs) h)))
       (in_character_patterns p cs (and_right (is_code c) (list_all is_code cs) h))
 
@@ -70,7 +70,7 @@ module _ (q : Asked Bool) (P : Sign → Type 0) (w : Bool) (l : Locals q P w) wh
     in_pattern (list_on p t ts u) h =
         either_pattern p (constant_of true (list_on p t ts u))
         (C.list_like p (C.and_pattern (pattern_of t) (patterns_of ts (tail_patterns u)))
-            (rest_pattern p u (pattern_of u)))
+        (rest_pattern p u (pattern_of u)))
         (l.at_pattern (list_on p t ts u) h)
         (λ a. together (together a (together (in_pattern t h.1)
         (in_patterns ts (tail_patterns u) h.2 (in_tail_patterns u h.3)))) (in_rest_pattern p u h.3 (in_pattern u h.3)))
@@ -152,7 +152,7 @@ module _ (q : Asked Bool) (P : Sign → Type 0) (w : Bool) (l : Locals q P w) wh
     in_expr (external p m f n) d r h g = l.at_expr (external p m f n) d r h g
     in_expr (noted p t n) d r h g =
         in_expr t (suc d) _ h.0
-            (in_noted P w _ _ (on w expression (suc d) t) (on w note (suc (weight expression (noted p t n) + d)) n) r g)
+        (in_noted P w _ _ (on w expression (suc d) t) (on w note (suc (weight expression (noted p t n) + d)) n) r g)
     in_expr (alias x t) d r h g = never h.0
     in_expr (list p ts) d r h g =
         either p (constant_of false (list p ts)) (C.list p (exprs_of ts C.no_expr) (C.literal p T.nil))
@@ -166,7 +166,7 @@ module _ (q : Asked Bool) (P : Sign → Type 0) (w : Bool) (l : Locals q P w) wh
         (l.at_expr (list_on p t ts u) d r h g)
         (λ a. together (together a (together (in_expr t _ _ h.1 g.1)
         (in_row false ts _ _ (tail_items u) h.2 f (in_tail u _ _ h.3 e.1))))
-            (in_rest p u _ _ h.3 e.1 (in_expr u _ _ h.3 e.1)))
+        (in_rest p u _ _ h.3 e.1 (in_expr u _ _ h.3 e.1)))
     in_expr (tuple p ts) d r h g =
         either p (constant_of false (tuple p ts)) (C.tuple p (exprs_of ts C.no_expr)) (l.at_expr (tuple p ts) d r h g)
         (λ a. together a (in_row true ts _ _ C.no_expr h.1 g.1 none_held))
@@ -228,7 +228,7 @@ module _ (q : Asked Bool) (P : Sign → Type 0) (w : Bool) (l : Locals q P w) wh
         → Holds (all_exprs q (tail_items u))
     in_tail (noted p t n) d r h g =
         in_tail t (suc d) _ h.0
-            (in_noted P w _ _ (on w expression (suc d) t) (on w note (suc (weight expression (noted p t n) + d)) n) r g)
+        (in_noted P w _ _ (on w expression (suc d) t) (on w note (suc (weight expression (noted p t n) + d)) n) r g)
     in_tail (string p cs) d r h g = in_characters p cs h.1
     in_tail (list p ts) d r h g = in_row true ts _ _ C.no_expr h.1 g.1 none_held
     in_tail (list_on p t ts u) d r h g =
@@ -241,8 +241,8 @@ module _ (q : Asked Bool) (P : Sign → Type 0) (w : Bool) (l : Locals q P w) wh
         → Holds (all_in q (expr_of u)) → Holds (all_in q (rest_of p u (expr_of u)))
     in_rest p (noted o t n) d r h g k =
         in_rest p t (suc d) _ h.0
-            (in_noted P w _ _ (on w expression (suc d) t)
-                (on w note (suc (weight expression (noted o t n) + d)) n) r g) k
+        (in_noted P w _ _ (on w expression (suc d) t)
+        (on w note (suc (weight expression (noted o t n) + d)) n) r g) k
     in_rest p (string o cs) d r h g k = l.at_literal p T.nil refl
     in_rest p (list o ts) d r h g k = l.at_literal p T.nil refl
     in_rest p (list_on o t ts u) d r h g k =
@@ -309,7 +309,7 @@ module _ (q : Asked Bool) (P : Sign → Type 0) (w : Bool) (l : Locals q P w) wh
         (in_expr t _ _ h.2 (past_row P w true a_variable _ xs _ g.1.1).1.1)
     in_fun (noted p t n) d r h g =
         in_fun t (suc d) _ h.0
-            (in_noted P w _ _ (on w a_fun (suc d) t) (on w note (suc (weight a_fun (noted p t n) + d)) n) r g)
+        (in_noted P w _ _ (on w a_fun (suc d) t) (on w note (suc (weight a_fun (noted p t n) + d)) n) r g)
     in_fun (variable p x) d r h g = never h.0
     in_fun (atom p a) d r h g = never h
     in_fun (number p b z) d r h g = never h.0

@@ -127,8 +127,7 @@ pub record WrittenAsRead : Type 0 where
   pub no_value : body_kinds "let X = <> in X"
       ≡ written_kinds (let_in here (single (v "X")) (values here none) (v "X"))
   -- brackets of an annotation
-  pub notes : body_kinds "( 1 -| [ 2.0 , \"a\" ] )"
-      ≡ written_kinds (noted here (i 1) (list here (row_of (float here ∷ string here (codes "a") ∷ []))))
+  pub notes : body_kinds "( 1 -| [ 2.0 ] )" ≡ written_kinds (noted here (i 1) (list here (row_of (float here ∷ []))))
   -- a map on a base without a pair; both arrows
   pub maps : body_kinds "{ ~{|M}~ , ~{ 1 => 2 , 3 := 4 | M }~ }"
       ≡ written_kinds (tuple here (row_of (map_on here no_pair (v "M")
@@ -241,8 +240,9 @@ pub record ReadsAs : Type 0 where
   pub float_outside : first_float (float (at 3)) ≡ Some (at 3)
   pub float_inside : first_float (i 3) ≡ None
 
--- The text of a module with one function, and its places.
+-- The text of a string, and that of a module with its places.
 pub record TextExamples : Type 0 where
+  pub a_string : body_kinds "\"a\"" ≡ written_kinds (string here (codes "a"))
   pub one_variable : ModuleText (tokens (codes "module 'm' ['f'/1] attributes [] 'f'/1 = fun (X) -> X end")) (record {
     name = codes "m";
     exports = record { key = record { name = codes "f"; arity = 1 }; place = at 13 } ∷ [];

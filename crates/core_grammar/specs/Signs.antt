@@ -166,7 +166,7 @@ module _ (with_notes : Bool) where
         (clause_on (suc d) c (clauses_on (suc d) cs (kept_word (suc d) W.End r)))))
     on s d (apply p t ts) r =
         token_at (suc d) p (Word W.Apply)
-            (on expression (suc d) t (in_parens (suc d) (row_on true expression (suc d) ts) r))
+        (on expression (suc d) t (in_parens (suc d) (row_on true expression (suc d) ts) r))
     on s d (call p m f ts) r =
         token_at (suc d) p (Word W.Call) (on expression (suc d) m
         (symbol (suc d) S.Colon (on expression (suc d) f (in_parens (suc d) (row_on true expression (suc d) ts) r))))
@@ -257,13 +257,13 @@ signs w = module_on true 0 w (plain_sign 0 (of_kind End) ∷ [])
 abbrev pub signs_outside_notes : Written → List Sign
 signs_outside_notes w = module_on false 0 w []
 
--- whether the sign is one of the first in what fits: all of them fit, and none is marked
+-- the tokens fit the first of the signs, none of which is marked
 abbrev pub FitFront : List Sign → List Token → Type 0
 FitFront gs [] = ⊤
 FitFront [] (t ∷ ts) = ⊥
 FitFront (g ∷ gs) (t ∷ ts) = Fits g.sight t × (g.marked ≡ false) × FitFront gs ts
 
--- the same, and there are no more
+-- the tokens fit all of the signs, none of which is marked
 abbrev pub FitWhole : List Sign → List Token → Type 0
 FitWhole [] [] = ⊤
 FitWhole [] (t ∷ ts) = ⊥

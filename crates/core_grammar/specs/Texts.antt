@@ -1,5 +1,5 @@
 -- Which tokens are the text of a module, and where those that are none have their first fault.
-use Rattle.std.specs.Prelude.{◌≡◌, ◌<◌, ℕ, List, [], ◌∷◌, ◌++◌, IsTrue}
+use Rattle.std.specs.Prelude.{◌≡◌, ◌<◌, ℕ, List, [], ◌∷◌, ◌++◌}
 use Rattle.erl_base.specs.declared.ids.Place.{Place}
 use Rattle.erl_base.specs.declared.refusal.Fault.{Fault}
 use Rattle.erl_base.specs.declared.refusal.Fault.TheVariants.{Refused, NoMemory}
