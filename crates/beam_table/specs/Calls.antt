@@ -2,11 +2,12 @@
 use Rattle.std.specs.Prelude.{ℕ, suc, ◌+◌, ◌-◌, List, [], ◌∷◌, ◌++◌, length, slice_get, get_or, take, Bool, true, false, ◌&&◌, eqb, leb, Option, Some, None, if◌then◌else◌, codes}
 use Rattle.erl_base.specs.Names.{Name, same_name}
 use Rattle.erl_term.specs.Term as T
-use Rattle.erl_term.specs.Term.{Term, none, more}
+use Rattle.erl_term.specs.Term.{Term}
 use Rattle.erl_term.specs.Terms.{terms, listed, tagged, list_of}
 use Rattle.bif_table.specs.Builtins.{lookup, never_returns}
 use Rattle.bif_table.specs.BuiltinAnswer.{Answer, value, raised, answer, badarg}
 use Rattle.world_model.specs.World as W
+use Rattle.world_model.specs.RemoteCalls.{badarity}
 use Rattle.world_model.specs.Requests.{is_send}
 use Rattle.world_model.specs.World.{Reply}
 use Rattle.step_machine.specs.Steps.{goes, notes, entered}
@@ -130,10 +131,6 @@ module _ (a : AsmModule) where
   do_make_fun l s d ss m = if_some (slice_get a.funs s) λ f.
       needs (eqb f.entry l && leb (length ss) f.key.arity) (builds (4 + length ss) m λ u. read_all u ss λ ts.
       write_term u d (T.fun a.name s (f.key.arity - length ss) (terms ts)) goes)
-
-  -- the reason of a call with another number of arguments
-  abbrev pub badarity : Term → List Term → Term
-  badarity t ts = tagged (codes "badarity") (T.tuple (more t (more (list_of ts T.nil) none)))
 
   -- function s, if it is there with n parameters
   abbrev pub with_arity : Option AsmFun → ℕ → Option AsmFun

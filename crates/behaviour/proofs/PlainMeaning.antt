@@ -1,7 +1,7 @@
 -- What a plain definition means.
 use Rattle.std.proofs.Common.{◌≡◌, ◌<◌, ◌+◌, not, ◌||◌, ℕ, zero, suc, List, [], ◌∷◌, ◌++◌, map, length, slice_get, if◌then◌else◌, eqb, Bool, true, false, Option, Some, None, refl, sym, ap, ◌∙◌, subst, arith}
 use Rattle.std.proofs.lemmas.Bool.{eq-eqb, eqb-true, ne_eqb}
-use Rattle.erl_base.specs.Names.{Name, same_name, same_key}
+use Rattle.erl_base.specs.Names.{Name, same_name, same_key, is_key, keys_distinct}
 use Rattle.erl_base.specs.declared.ids.FunKey.{FunKey}
 use Rattle.erl_base.specs.declared.ids.Place.{Place}
 use Rattle.erl_term.specs.Term as T
@@ -18,7 +18,6 @@ use Rattle.core_meaning.specs.Calls.{Invocation}
 use Rattle.core_meaning.specs.EvaluationContext.{EvaluationContext, held, holding, value_of}
 use Rattle.core_meaning.specs.Evaluation.{eval}
 use Rattle.core_meaning.specs.CoreRun.{run_site}
-use Rattle.beam_table.specs.ValidModule.{is_key, keys_distinct}
 use Rattle.behaviour.specs.PlainModules.{PlainBody, number, atom, parameter, PlainFun, later_place, parameter_place, as_parameter, plain_body, with_key, plain_fun, both_plain, plain_funs}
 use Rattle.behaviour.proofs.Keys.{and_true, or_false, same_key_is, same_key_itself, other_key, keys_differ, some_is}
 use Rattle.behaviour.proofs.PlainRuns.{given, Found}

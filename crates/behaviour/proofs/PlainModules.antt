@@ -13,7 +13,8 @@ use Rattle.core_meaning.specs.CoreRun.{Known, apart_of, run_site, deep, known, k
 use Rattle.step_machine.specs.Steps.{Ran, run}
 use Rattle.beam_table.specs.InstructionStep.{step}
 use Rattle.beam_table.specs.MachineRun.{start, code_of, asm_run}
-use Rattle.beam_table.specs.ValidModule.{every, is_key}
+use Rattle.erl_base.specs.Names.{is_key}
+use Rattle.beam_table.specs.ValidModule.{every}
 use Rattle.behaviour.specs.Called.{Called, export_keys}
 use Rattle.behaviour.specs.Matched.{FollowsTails, FollowsCosts}
 use Rattle.behaviour.specs.SameBehaviour.{FollowsResults}

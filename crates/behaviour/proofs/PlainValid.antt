@@ -1,14 +1,14 @@
 -- The assembly of a plain module is valid.
 use Rattle.std.proofs.Common.{◌≡◌, ◌<◌, ◌+◌, ◌*◌, ◌^◌, not, ◌&&◌, ◌||◌, ℕ, zero, suc, List, [], ◌∷◌, ◌++◌, map, length, if◌then◌else◌, leb, Bool, true, false, Option, None, Some, refl, sym, ap, ap₂, ◌∙◌, subst, arith}
 use Rattle.std.proofs.lemmas.Bool.{ne_eqb, lt-ltb, le-leb, leb-true}
-use Rattle.erl_base.specs.Names.{same_key}
+use Rattle.erl_base.specs.Names.{same_key, is_key, keys_distinct}
 use Rattle.erl_base.specs.declared.ids.FunKey.{FunKey}
 use Rattle.erl_term.specs.Term as T
 use Rattle.core_form.specs.declared.tree.Binder.{Binder}
 use Rattle.core_form.specs.Core.{Expr, literal, var, Defs, no_def, and_def, def}
 use Rattle.beam_table.specs.OperandBounds.{label_ok}
 use Rattle.erl_base.specs.Lists.{among}
-use Rattle.beam_table.specs.ValidModule.{every, distinct, labels_in, all_labels, entries_of, fun_ok, is_key, keys_distinct}
+use Rattle.beam_table.specs.ValidModule.{every, distinct, labels_in, all_labels, entries_of, fun_ok}
 use Rattle.behaviour.specs.Called.{without, each_once, export_keys}
 use Rattle.behaviour.specs.PlainModules.{PlainBody, number, atom, parameter, PlainFun, plain_code, plain_asm, parameter_place, as_parameter, plain_body, plain_fun, body_fits, fun_fits, PlainAssemblyIsValid}
 use Rattle.behaviour.proofs.Keys.{and_true, or_false, some_is}

@@ -1,6 +1,6 @@
 -- Plain modules: each function gives an integer, an atom, or one of its parameters; and their assembly.
 use Rattle.std.specs.Prelude.{◌≡◌, ◌<◌, ◌^◌, ◌&&◌, leb, ℕ, ℤ, zero, suc, ◌+◌, ◌*◌, List, [], ◌∷◌, map, length, eqb, Bool, true, false, Option, Some, None, if◌then◌else◌, IsTrue}
-use Rattle.erl_base.specs.Names.{Name, same_name}
+use Rattle.erl_base.specs.Names.{Name, same_name, is_key, keys_distinct}
 use Rattle.erl_base.specs.declared.ids.FunKey.{FunKey}
 use Rattle.erl_term.specs.Term as T
 use Rattle.core_form.specs.declared.tree.Binder.{Binder}
@@ -8,7 +8,7 @@ use Rattle.core_form.specs.Core.{Module, Expr, literal, var, fun, Defs, no_def, 
 use Rattle.beam_table.specs.Code as C
 use Rattle.beam_table.specs.Code.{Insn, move, return, x_reg, AsmFun, AsmModule}
 use Rattle.erl_term.specs.Ranges.{is_within_128}
-use Rattle.beam_table.specs.ValidModule.{every, is_key, keys_distinct, attribute_ok, Valid}
+use Rattle.beam_table.specs.ValidModule.{every, attribute_ok, Valid}
 use Rattle.behaviour.specs.Called.{export_keys, each_once}
 use Rattle.behaviour.specs.SameBehaviour.{SameBehaviour, TailCalls, CheapCalls}
 

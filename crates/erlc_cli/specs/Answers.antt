@@ -30,9 +30,9 @@ ReadsFailed old new = Rose old.read_faults new.read_faults
 abbrev pub WritesFailed : Told → Told → Type 0
 WritesFailed old new = Rose old.write_faults new.write_faults
 
--- the answers that an action may give
+-- the answers that an action may give; to read the words takes memory
 abbrev pub IsAnswer : Option Action → Status → Type 0
-IsAnswer None status = status ≡ Usage
+IsAnswer None status = (status ≡ Usage) ⊎ (status ≡ NoMemory)
 IsAnswer (Some (compile input output)) status = IsCompileAnswer status
 
 -- what an action leaves of files that are told

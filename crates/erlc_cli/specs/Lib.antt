@@ -1,5 +1,6 @@
 pub mod Actions
 pub mod ActionView
+pub mod Command
 pub mod CompileAnswers
 pub mod Headline
 pub mod Answers

@@ -1,4 +1,4 @@
-ghost use Rattle.std.specs.Prelude.{◌≡◌, ◌↔◌, ◌<◌, ℕ, List, None, length, take, drop};
+ghost use Rattle.std.specs.Prelude.{◌≡◌, ◌⊎◌, ◌<◌, ℕ, List, None, length, take, drop};
 ghost use Rattle.erlc_cli.specs.ActionView.{asked};
 ghost use Rattle.erlc_cli.specs.Answers.{IsAnswer, Leaves, LacksFile, LacksRoomToWrite, IsRight, PutsOut, CannotRead, WritesFailed};
 ghost use Rattle.erlc_cli.specs.Notes.{Noted, note_of};
@@ -7,7 +7,7 @@ use crate::action::{Action, action_in};
 use crate::compile::compile_file;
 use crate::notes::note;
 use crate::status::Status;
-use std::alloc::Global;
+use std::alloc::{AllocError, Global};
 use store_io::{Sink, Store};
 
 /// Does what the words ask for: `compile IN OUT` reads the module text IN and writes its assembly text to OUT.
@@ -24,9 +24,10 @@ pub fn run<S: Store, O: Sink, N: Sink>(
     requires { (s : S) → (name text : List ℕ) → (done : ℕ) → done < length text
         → S.may_append s name (take 4096 (drop done text)) }
     ensures answers { IsAnswer (asked words.now) result }
-    ensures usage { (result ≡ Status.Usage) ↔ (asked words.now ≡ None) }
+    ensures usage { result ≡ Status.Usage → asked words.now ≡ None }
     ensures files { Leaves (asked words.now) result (S.told store.old) (S.told store.new) }
-    ensures absent { LacksFile (asked words.now) (S.told store.old) → result ≡ Status.ReadFault }
+    ensures absent { LacksFile (asked words.now) (S.told store.old)
+        → (result ≡ Status.ReadFault) ⊎ (result ≡ Status.NoMemory) }
     ensures read { result ≡ Status.ReadFault → CannotRead (asked words.now) (S.told store.old) (S.told store.new) }
     ensures write { result ≡ Status.WriteFault → WritesFailed (S.told store.old) (S.told store.new) }
     ensures no_room { result ≡ Status.WriteFault → LacksRoomToWrite (asked words.now) (S.told store.old) }
@@ -35,16 +36,17 @@ pub fn run<S: Store, O: Sink, N: Sink>(
     ensures notes { Noted N.bytes N.faults (note_of (asked words.now) result) notes.old notes.new }
 {
     let _ = &out;
-    match action_in(words) {
-        Some(Action::Compile(input, output)) => {
+    match action_in(alloc, words) {
+        Ok(Some(Action::Compile(input, output))) => {
             let status = compile_file(alloc, store, input, output);
             note(notes, status, input, output);
             status
         }
-        None => {
+        Ok(None) => {
             note(notes, Status::Usage, "", "");
             Status::Usage
         }
+        Err(AllocError) => run_without_words(notes),
     }
 }
 

@@ -2,9 +2,9 @@
 use Rattle.std.proofs.Common.{◌≡◌, List, [], ◌∷◌, ◌++◌, ◌&&◌, ◌||◌, Bool, true, false, not, eqb, if◌then◌else◌, refl, sym, ap, ap₂, subst, ◌∙◌, append_assoc, rules}
 use Rattle.std.specs.Bool.{Decides}
 use Rattle.std.proofs.lemmas.Bool.Decides.{same_from_decides}
-use Rattle.erl_base.specs.Names.{same_name, same_key}
+use Rattle.erl_base.specs.Names.{same_name, same_key, is_key, keys_distinct}
 use Rattle.erl_base.specs.declared.ids.FunKey.{FunKey}
-use Rattle.beam_table.specs.ValidModule.{every, is_key, keys_distinct}
+use Rattle.beam_table.specs.ValidModule.{every}
 use Rattle.behaviour.specs.Called.{without, each_once}
 use Rattle.pass_line.specs.PlainModule.{are_new}
 use Rattle.pass_line.proofs.Names.{same_name-Decides, both}

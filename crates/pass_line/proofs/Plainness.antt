@@ -1,5 +1,5 @@
 -- What makes a module plain.
-use Rattle.std.proofs.Common.{◌≡◌, ◌<◌, ◌≤◌, suc, List, [], ◌∷◌, Bool, true, false, ℤ, pos, negsuc, FitsSigned, true≢false, IsTrue, ◌↔◌, ◌∙◌, map, length, nat_le, Result, Ok, Err, IfOk, refl, sym, ap, subst, arith, rules}
+use Rattle.std.proofs.Common.{◌≡◌, ◌<◌, ◌≤◌, suc, List, [], ◌∷◌, Bool, true, false, ℤ, pos, negsuc, FitsSigned, true≢false, IsTrue, ◌↔◌, ◌∙◌, map, length, nat_le, refl, sym, ap, subst, arith, rules}
 use Rattle.erl_base.specs.declared.ids.FunKey.{FunKey}
 use Rattle.core_form.specs.declared.tree.Def.{Def}
 use Rattle.core_form.specs.declared.module.Module.{Module}
@@ -7,7 +7,7 @@ use Rattle.erl_term.specs.View.{attribute_view}
 use Rattle.core_form.specs.View.{defs, def_view, module_view}
 use Rattle.erl_term.specs.declared.term.Attribute.{Attribute}
 use Rattle.erl_term.specs.Ranges.{is_within_128}
-use Rattle.beam_table.specs.ValidModule.{keys_distinct}
+use Rattle.erl_base.specs.Names.{keys_distinct}
 use mir.Syntax.{w128}
 use Rattle.pass_line.proofs.EachOnce.{are_new-keys_distinct}
 use Rattle.pass_line.specs.PlainModule.{keys_of, are_plain, is_plain_atom, are_new, are_known, IsPlain}
@@ -23,10 +23,6 @@ too_many ds h t = let l : nat_le (length ds) 20000 ≡ true =
 
 pub few : (ds : List Def) → length ds ≤ 20000 → IsTrue (nat_le (length (keys_of (defs (map def_view ds)))) 20000)
 few ds h = subst (λ n. nat_le n 20000 ≡ true) (sym (length-keys_of ds)) (search (rules, h))
-
-pub ok_then : {X E : Type 0} {P Q : X → Type 0} (r : Result X E) → IfOk r P → ((x : X) → P x → Q x) → IfOk r Q
-ok_then (Ok x) h f = f x h
-ok_then (Err e) h f = tt
 
 -- what is tested in turn
 pub told : (m : Module) (known : List FunKey) (b : Bool) →

@@ -1,13 +1,13 @@
 -- A plain module's code has a text, and is a valid module.
 use Rattle.std.proofs.Common.{◌≡◌, ◌<◌, ◌^◌, ℕ, zero, suc, List, [], ◌∷◌, ◌&&◌, ◌||◌, Bool, true, false, leb, length, if◌then◌else◌, refl, sym, ap, ap₂, subst, ◌∙◌, true≢false, arith}
-use Rattle.erl_base.specs.Names.{same_key}
+use Rattle.erl_base.specs.Names.{same_key, is_key, keys_distinct}
 use Rattle.erl_base.specs.declared.ids.FunKey.{FunKey}
 use Rattle.erl_term.specs.Term as T
 use Rattle.erl_term.specs.Term.{Term}
 use Rattle.term_text.specs.Atoms.{is_plain_name}
 use Rattle.core_form.specs.declared.tree.Binder.{Binder}
 use Rattle.core_form.specs.Core.{Module, Expr, literal, var, fun, Defs, no_def, and_def, def}
-use Rattle.beam_table.specs.ValidModule.{every, is_key, keys_distinct, attribute_ok, Valid}
+use Rattle.beam_table.specs.ValidModule.{every, attribute_ok, Valid}
 use Rattle.asm_text.specs.AssemblyText.{insn_has_text, fun_has_text, HasText}
 use Rattle.behaviour.specs.Called.{export_keys, without, each_once}
 use Rattle.behaviour.specs.PlainModules.{body_fits, fun_fits, IsPlainModule, FitsText, PlainAssemblyIsValid, plain_assembly}

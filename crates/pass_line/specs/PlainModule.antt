@@ -1,6 +1,6 @@
 -- Which modules are plain: those without a fault of scope, within the limits, and with atoms that need no quotes.
 use Rattle.std.specs.Prelude.{◌≡◌, List, [], ◌∷◌, ◌++◌, map, Bool, true, false, ◌&&◌, ◌||◌, not, ◌==◌, nat_le, length, IsTrue}
-use Rattle.erl_base.specs.Names.{Name, same_name}
+use Rattle.erl_base.specs.Names.{Name, same_name, is_key, keys_distinct}
 use Rattle.erl_base.specs.declared.ids.FunKey.{FunKey}
 use Rattle.erl_term.specs.Term.{Term, int, atom}
 use Rattle.term_text.specs.Atoms.{is_plain_name}
@@ -8,7 +8,7 @@ use Rattle.core_form.specs.declared.tree.Binder.{Binder}
 use Rattle.core_form.specs.declared.module.FunName.{FunName}
 use Rattle.core_form.specs.Core.{Expr, literal, var, fun, Def, Defs, no_def, and_def, def, Module}
 use Rattle.erl_term.specs.Ranges.{is_within_128}
-use Rattle.beam_table.specs.ValidModule.{every, is_key, keys_distinct}
+use Rattle.beam_table.specs.ValidModule.{every}
 
 -- an atom that is written without quotes, of at most 255 characters
 abbrev pub is_plain_atom : Name → Bool

@@ -19,9 +19,9 @@ ghost use Rattle.pass_line.specs.CompileCorrect.{IsCorrect};
 ghost use Rattle.pass_line.specs.Compiled.{HasCode, IsNotBuilt};
 
 mod code;
-mod keys;
 mod plain;
 mod reader;
+mod spelling;
 mod text;
 
 use beam_table::AsmModule;

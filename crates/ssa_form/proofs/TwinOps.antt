@@ -200,7 +200,8 @@ module _ (around : Around) (here : Here) (V W : ℕ → Held) (d : Option ℕ) (
 
     remote_both : (m : Mode) (vs : Values) (c : List MatchContext) (s : State)
         → B (remote_does in_vars around here m d vs (one V c) s) (remote_does in_vars around here m d vs (one W c) s)
-    remote_both m (t ∷ g ∷ vs) c s = calls_both m (leaving_of in_vars around here (raises_for_sure t g (length vs))) _ c s
+    remote_both m (t ∷ g ∷ vs) c s =
+        calls_both m (leaving_of in_vars around here (raises_for_sure t g (length vs))) _ c s
     remote_both m [] c s = both_bad
     remote_both m (t ∷ []) c s = both_bad
 

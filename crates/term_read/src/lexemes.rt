@@ -17,14 +17,16 @@ use term_text::{is_name_character, is_same};
 /// The greatest magnitude of a negative integer.
 const MOST: u128 = 170141183460469231731687303715884105728;
 
-fn is_space(c: char) -> bool
+/// A blank, but for comments.
+pub fn is_space(c: char) -> bool
     ensures { result ≡ is_space c }
 {
     c == ' ' || c == '\t' || c == '\n' || c == '\r'
 }
 
+/// What is left behind blanks and comments.
 #[tactic(auto, unfolding(crate::specs::Lexemes::behind_blanks))]
-pub(crate) fn behind_blanks(cs: &[char]) -> &[char]
+pub fn behind_blanks(cs: &[char]) -> &[char]
     ensures value { result.now ≡ behind_blanks cs.now }
     ensures fits { length result.now ≤ length cs.now }
 {
@@ -70,8 +72,8 @@ pub(crate) fn mark_at<'a>(cs: &'a [char], mark: &[u8]) -> Option<&'a [char]>
     behind_mark(behind_blanks(cs), mark)
 }
 
-/// A mark that must stand there.
-pub(crate) fn expect<'a>(cs: &'a [char], mark: &[u8]) -> Result<&'a [char], Unread>
+/// A mark that must stand there, behind blanks.
+pub fn expect<'a>(cs: &'a [char], mark: &[u8]) -> Result<&'a [char], Unread>
     ensures value { Gives (λ rest. rest.now) result (mark_at mark.now cs.now) }
     ensures fits { IfOk result (λ rest. length rest.now + length mark.now ≤ length cs.now) }
 {

@@ -17,10 +17,12 @@ mod leaves;
 mod lexemes;
 mod lists;
 mod read;
-mod reader;mod unread;
+mod reader;
+mod unread;
 
 pub use flat::{FunHead, Part};
 pub use laws::{printed_terms_are_read, reading_decides_the_grammar, text_has_one_term};
+pub use lexemes::{behind_blanks, expect, is_space};
 pub use read::read_at;
-pub use reader::read_term;
+pub use reader::{MOST_NESTING, read_term};
 pub use unread::Unread;

@@ -25,9 +25,9 @@ call_terms own (T.atom m) (T.atom f) vs =
     if same_name m (codes "erlang") then call_erlang own f vs else call_out m f vs
 call_terms own _ _ vs = fail T.error badarg
 
--- a call of f with another number of arguments than its arity
-abbrev pub badarity : Term → Values → M Values
-badarity f vs = fail T.error (tagged (codes "badarity") (T.tuple (more f (more (list_of vs T.nil) none))))
+-- the reason of a call of f with another number of arguments than its arity
+abbrev pub badarity : Term → Values → Term
+badarity f vs = tagged (codes "badarity") (T.tuple (more f (more (list_of vs T.nil) none)))
 
 -- whether a function, if there is one, has n parameters
 abbrev pub takes : Option ℕ → ℕ → Bool
@@ -44,12 +44,12 @@ pub record Callees : Type 0 where
 -- a call of a term; a fun of another module, or of another version of this one, is a request
 abbrev pub apply_term : Callees → Term → Values → M Values
 apply_term callees (T.fun m s a cs) vs =
-    if not (eqb a (length vs)) then badarity (T.fun m s a cs) vs
+    if not (eqb a (length vs)) then fail T.error (badarity (T.fun m s a cs) vs)
     else if same_name m callees.name && takes (callees.parameters s) (a + length (listed cs))
     then callees.enter s (vs ++ listed cs)
     else call_out (codes "erlang") (codes "apply") (T.fun m s a cs ∷ list_of vs T.nil ∷ [])
 apply_term callees (T.extern m f a) vs =
-    if not (eqb a (length vs)) then badarity (T.extern m f a) vs else call_out m f vs
+    if not (eqb a (length vs)) then fail T.error (badarity (T.extern m f a) vs) else call_out m f vs
 apply_term callees t vs = fail T.error (tagged (codes "badfun") t)
 
 -- raises with the class that a raw trace keeps
