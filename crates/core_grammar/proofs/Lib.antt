@@ -1,0 +1,11 @@
+pub mod Computed
+pub mod Truths
+pub mod Constants
+pub mod Past
+pub mod Literals
+pub mod KeysRead
+pub mod Walk
+pub mod Names
+pub mod Shapes
+pub mod Binaries
+pub mod SourceTrees
