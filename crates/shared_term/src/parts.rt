@@ -1,0 +1,106 @@
+ghost use Rattle.std.specs.Prelude.{◌≡◌, ◌+◌, IfSome, IfOk, All, map, option_map};
+ghost use Rattle.erl_term.specs.Term as P;
+ghost use Rattle.erl_term.specs.Terms.{terms};
+ghost use Rattle.shared_term.specs.Parts.{head_of, tail_of, elements_of, captured_of, slice_of};
+ghost use Rattle.shared_term.specs.View.{view, IsWhole};
+
+use crate::value::{BitRange, Value};
+use erl_base::NoMemory;
+
+impl Value {
+    /// The item of a cell.
+    #[tactic(auto, unfolding(erl_term::specs::WellFormed::maps_rise))]
+    pub fn head(&self) -> Option<&Value>
+        requires { IsWhole self.now }
+        ensures item { option_map (λ value. view value.now) result ≡ head_of (view self.now) }
+        ensures whole { IfSome result (λ value. IsWhole value.now) }
+    {
+        match self {
+            Value::Cons(cell) => Some(&cell.head),
+            Value::Int(_)
+            | Value::Atom(_)
+            | Value::Nil
+            | Value::Tuple(_)
+            | Value::Map(_)
+            | Value::Bits(_)
+            | Value::Fun(_)
+            | Value::Extern(_)
+            | Value::Pid(_)
+            | Value::Reference(_)
+            | Value::Port(_)
+            | Value::RawTrace(_) => None,
+        }
+    }
+
+    /// What follows the item of a cell.
+    #[tactic(auto, unfolding(erl_term::specs::WellFormed::maps_rise))]
+    pub fn tail(&self) -> Option<&Value>
+        requires { IsWhole self.now }
+        ensures rest { option_map (λ value. view value.now) result ≡ tail_of (view self.now) }
+        ensures whole { IfSome result (λ value. IsWhole value.now) }
+    {
+        match self {
+            Value::Cons(cell) => Some(&cell.tail),
+            Value::Int(_)
+            | Value::Atom(_)
+            | Value::Nil
+            | Value::Tuple(_)
+            | Value::Map(_)
+            | Value::Bits(_)
+            | Value::Fun(_)
+            | Value::Extern(_)
+            | Value::Pid(_)
+            | Value::Reference(_)
+            | Value::Port(_)
+            | Value::RawTrace(_) => None,
+        }
+    }
+
+    /// The elements of a tuple.
+    #[tactic(auto, unfolding(erl_term::specs::WellFormed::maps_rise))]
+    pub fn elements(&self) -> Option<&[Value]>
+        requires { IsWhole self.now }
+        ensures elements { option_map (λ values. map view values.now) result ≡ elements_of (view self.now) }
+        ensures whole { IfSome result (λ values. All IsWhole values.now) }
+    {
+        match self {
+            Value::Tuple(row) => Some(row.items.as_slice()),
+            Value::Int(_)
+            | Value::Atom(_)
+            | Value::Nil
+            | Value::Cons(_)
+            | Value::Map(_)
+            | Value::Bits(_)
+            | Value::Fun(_)
+            | Value::Extern(_)
+            | Value::Pid(_)
+            | Value::Reference(_)
+            | Value::Port(_)
+            | Value::RawTrace(_) => None,
+        }
+    }
+
+    /// The terms that a fun of a module captured.
+    #[tactic(auto, unfolding(erl_term::specs::WellFormed::maps_rise))]
+    pub fn captured(&self) -> Option<&[Value]>
+        requires { IsWhole self.now }
+        ensures captured { option_map (λ values. map view values.now) result ≡ captured_of (view self.now) }
+        ensures whole { IfSome result (λ values. All IsWhole values.now) }
+    {
+        match self {
+            Value::Fun(fun) => Some(fun.captured.items.as_slice()),
+            Value::Int(_)
+            | Value::Atom(_)
+            | Value::Nil
+            | Value::Cons(_)
+            | Value::Tuple(_)
+            | Value::Map(_)
+            | Value::Bits(_)
+            | Value::Extern(_)
+            | Value::Pid(_)
+            | Value::Reference(_)
+            | Value::Port(_)
+            | Value::RawTrace(_) => None,
+        }
+    }
+}
