@@ -57,7 +57,7 @@ impl Value {
     }
 
     /// The elements of a tuple.
-    #[tactic(auto, unfolding(erl_term::specs::WellFormed::maps_rise))]
+    #[tactic(auto, using(crate::proofs::Rows::row_reads, crate::proofs::Rows::each_whole), unfolding(erl_term::specs::WellFormed::maps_rise))]
     pub fn elements(&self) -> Option<&[Value]>
         requires { IsWhole self.now }
         ensures elements { option_map (λ values. map view values.now) result ≡ elements_of (view self.now) }
@@ -81,7 +81,7 @@ impl Value {
     }
 
     /// The terms that a fun of a module captured.
-    #[tactic(auto, unfolding(erl_term::specs::WellFormed::maps_rise))]
+    #[tactic(auto, using(crate::proofs::Rows::row_reads, crate::proofs::Rows::each_whole), unfolding(erl_term::specs::WellFormed::maps_rise))]
     pub fn captured(&self) -> Option<&[Value]>
         requires { IsWhole self.now }
         ensures captured { option_map (λ values. map view values.now) result ≡ captured_of (view self.now) }
