@@ -8,7 +8,11 @@
 //! deep as it nests.
 #![tactic(auto)]
 
+mod build;
+mod convert;
 mod parts;
 mod value;
 
+pub use convert::from_term;
+pub use build::{atom, cons, extern_value, fun_value, tuple};
 pub use value::{BitRange, Cell, External, Local, MapPairs, Row, Value, ValuePair};

@@ -57,7 +57,7 @@ impl Value {
     }
 
     /// The elements of a tuple.
-    #[tactic(auto, using(crate::proofs::Rows::row_reads, crate::proofs::Rows::each_whole), unfolding(erl_term::specs::WellFormed::maps_rise))]
+    #[tactic(auto)]
     pub fn elements(&self) -> Option<&[Value]>
         requires { IsWhole self.now }
         ensures elements { option_map (λ values. map view values.now) result ≡ elements_of (view self.now) }
@@ -81,7 +81,7 @@ impl Value {
     }
 
     /// The terms that a fun of a module captured.
-    #[tactic(auto, using(crate::proofs::Rows::row_reads, crate::proofs::Rows::each_whole), unfolding(erl_term::specs::WellFormed::maps_rise))]
+    #[tactic(auto)]
     pub fn captured(&self) -> Option<&[Value]>
         requires { IsWhole self.now }
         ensures captured { option_map (λ values. map view values.now) result ≡ captured_of (view self.now) }
@@ -101,6 +101,43 @@ impl Value {
             | Value::Reference(_)
             | Value::Port(_)
             | Value::RawTrace(_) => None,
+        }
+    }
+}
+
+impl Value {
+    /// `length` bits of a bit string, from the bit `from` on; None where they do not stand there.
+    #[tactic(auto)]
+    pub fn slice(&self, from: u64, length: u64) -> Result<Option<Value>, NoMemory>
+        requires { IsWhole self.now }
+        ensures bits { IfOk result (λ value. option_map view value ≡ slice_of from length (view self.now)) }
+        ensures whole { IfOk result (λ value. IfSome value IsWhole) }
+    {
+        match self {
+            Value::Bits(range) => {
+                if from > range.length || length > range.length - from {
+                    return Ok(None);
+                }
+                // (shaped for the prover: there are fewer than 2^32 bytes, so the sum fits)
+                let _count = range.bytes.len();
+                Ok(Some(Value::Bits(BitRange {
+                    bytes: range.bytes.clone()?,
+                    from: range.from + from,
+                    length,
+                })))
+            }
+            Value::Int(_)
+            | Value::Atom(_)
+            | Value::Nil
+            | Value::Cons(_)
+            | Value::Tuple(_)
+            | Value::Map(_)
+            | Value::Fun(_)
+            | Value::Extern(_)
+            | Value::Pid(_)
+            | Value::Reference(_)
+            | Value::Port(_)
+            | Value::RawTrace(_) => Ok(None),
         }
     }
 }

@@ -1,12 +1,10 @@
 ghost use Rattle.std.specs.Prelude.{◌≡◌, IfOk};
 ghost use Rattle.erl_term.specs.Depth.{depth, depths};
-ghost use Rattle.erl_term.specs.Term as P;
 ghost use Rattle.shared_term.specs.View.{view, range_view, is_within, IsWhole};
 
 use erl_base::{Bytes, List, Name, NoMemory, SiteId};
 use erl_term::Class;
 use std::alloc::Global;
-use std::cmp::max;
 use std::rc::Rc;
 
 /// A value of Erlang whose parts are shared.
@@ -171,7 +169,7 @@ impl Value {
 
     /// How deep its parts nest where it is the rest of a list.
     #[tactic(auto, unfolding(erl_term::specs::Depth::depths))]
-    fn depth_as_rest(&self) -> u64
+    pub fn depth_as_rest(&self) -> u64
         requires { IsWhole self.now }
         ensures { result ≡ (depths (view self.now)).rest }
     {
@@ -193,33 +191,8 @@ impl Value {
     }
 }
 
-/// The cell of an item and what follows it.
-#[tactic(auto, unfolding(erl_term::specs::Depth::depths, erl_term::specs::WellFormed::maps_rise))]
-pub fn cons(alloc: Global, head: Value, tail: Value) -> Result<Value, NoMemory>
-    requires head { IsWhole head }
-    requires tail { IsWhole tail }
-    ensures cell { IfOk result (λ value. view value ≡ P.cons (view head) (view tail)) }
-    ensures whole { IfOk result IsWhole }
-{
-    let deepest = kept(max(head.depth(), tail.depth_as_rest()))?;
-    match Rc::new(alloc, Cell { deepest, head, tail }) {
-        Ok(cell) => Ok(Value::Cons(cell)),
-        Err(_) => Err(NoMemory),
-    }
-}
-
-/// A depth as it is kept; one past 2^32 - 1 is refused as a growth without memory is.
-fn kept(depth: u64) -> Result<u32, NoMemory>
-    ensures { IfOk result (λ n. n ≡ depth) }
-{
-    match u32::try_from(depth) {
-        Ok(depth) => Ok(depth),
-        Err(_) => Err(NoMemory),
-    }
-}
-
 impl BitRange {
-    fn share(&self) -> Result<BitRange, NoMemory>
+    pub fn share(&self) -> Result<BitRange, NoMemory>
         ensures same { IfOk result (λ range. range_view range ≡ range_view self.now) }
         ensures within { IfOk result (λ range. is_within range ≡ is_within self.now) }
     {
