@@ -1,20 +1,26 @@
 -- Ranges of bits, and their parts.
-use Rattle.std.proofs.Common.{◌≡◌, ℕ, ◌+◌, ◌-◌, ◌*◌, ◌≤◌, ◌<◌, ◌^◌, refl, sym, ap, ap₂, ◌∙◌, subst, List, length, take, drop, Bool, true, IsTrue, Some, None, leb, if◌then◌else◌, arith}
+use Rattle.std.proofs.Common.{◌≡◌, ℕ, ◌+◌, ◌-◌, ◌*◌, ◌≤◌, ◌<◌, ◌^◌, ◌++◌, [], ◌∷◌, min, refl, sym, ap, ap₂, ◌∙◌, subst, List, length, take, drop, Bool, true, IsTrue, Some, None, leb, if◌then◌else◌, arith, length-append}
 use Rattle.std.specs.declared.rc.Rc.{Rc}
 use Rattle.std.specs.declared.alloc.Global.{Global}
 use Rattle.std.proofs.lemmas.List.{drop-drop, take-take, drop-take, length-take-le, length-drop}
-use Rattle.erl_term.specs.BitString.{byte_bits}
+use Rattle.std.specs.Ordering.{nat_cmp, bool_cmp, ordering_then}
+use Rattle.std.specs.Cmp.Lexicographic.{slice_cmp}
+use Rattle.erl_term.specs.BitString.{bits_of, byte_bits}
 use Rattle.erl_term.specs.Term as P
-use Rattle.erl_term.specs.WellFormed.{maps_rise}
+use Rattle.erl_term.specs.WellFormed.{maps_rise, IsFull}
+use Rattle.erl_term.specs.View.{bits_view}
+use Rattle.erl_term.specs.declared.term.Bits.{Bits as Kept}
 use Rattle.erl_term.proofs.BitOrder.{length-byte_bits}
 use Rattle.shared_term.specs.declared.value.BitRange.{BitRange}
 use Rattle.shared_term.specs.declared.value.Value.{Value}
 use Rattle.shared_term.specs.declared.value.Value.TheVariants as V
+use Rattle.shared_term.specs.Octets.{octet}
 use Rattle.shared_term.specs.Parts.{slice_of}
 use Rattle.shared_term.specs.View.{Reading, reading, view, range_view, is_within, IsWhole}
 use Rattle.shared_term.proofs.Forms.{bits-out}
+use Rattle.shared_term.proofs.OctetBits.{octets_step, bits_end, one_more, Holds, held_view, held_full}
 
-part_of_range : (bs : List Bool) (f l g n : ℕ) → g + n ≤ l → take n (drop g (take l (drop f bs))) ≡ take n (drop (f + g) bs)
+pub part_of_range : (bs : List Bool) (f l g n : ℕ) → g + n ≤ l → take n (drop g (take l (drop f bs))) ≡ take n (drop (f + g) bs)
 part_of_range bs f l g n h =
     let e : l ≡ g + (l - g) = omega arith in
     ap (λ k. take n (drop g (take k (drop f bs)))) e ∙ ap (take n) (drop-take g (l - g) (drop f bs))
@@ -30,7 +36,7 @@ of_leb m n h = grind arith
 pub within : (v : Value) (b : BitRange) → v ≡ V.Bits b → IsWhole v → b.from + b.length ≤ 8 * length b.bytes.value
 within v b e h = of_leb _ _ (subst (λ (q : Reading). IsTrue q.right) (bits-out v b e) h.right)
 
-range_length : (b : BitRange) → b.from + b.length ≤ 8 * length b.bytes.value → length (range_view b) ≡ b.length
+pub range_length : (b : BitRange) → b.from + b.length ≤ 8 * length b.bytes.value → length (range_view b) ≡ b.length
 range_length b h =
     length-take-le b.length (drop b.from (byte_bits b.bytes.value))
     (omega (arith, length-drop b.from (byte_bits b.bytes.value), length-byte_bits b.bytes.value))
@@ -69,3 +75,47 @@ all_whole b e h = record {
   right = subst (λ (q : Reading). IsTrue q.right) (sym (bits-out _ b refl)) (leb_of _ _ (omega (arith, e, h)));
   rising = subst (λ (q : Reading). IsTrue (maps_rise q.term)) (sym (bits-out _ b refl)) refl;
 }
+
+-- a part of a range, in the octet that it makes
+pub range_octet : (b : BitRange) (bytes : List ℕ) (n c x : ℕ) → bytes ≡ b.bytes.value → n + c ≤ b.length → bits_of 8 x ≡ octet bytes (b.from + n) c
+    → bits_of 8 x ≡ take c (drop n (range_view b)) ++ bits_of (8 - c) 0
+range_octet b bytes n c x e h f =
+    f ∙ ap (λ bs. octet bs (b.from + n) c) e
+    ∙ ap (λ bits. bits ++ bits_of (8 - c) 0) (sym (part_of_range (byte_bits b.bytes.value) b.from b.length n c h))
+
+-- ranges eight bits at a time
+pub ranges_step : (a b : BitRange) (n c x y : ℕ) → IsTrue (is_within a) → IsTrue (is_within b) → x < 256 → y < 256 → n + c ≤ min a.length b.length
+    → bits_of 8 x ≡ take c (drop n (range_view a)) ++ bits_of (8 - c) 0 → bits_of 8 y ≡ take c (drop n (range_view b)) ++ bits_of (8 - c) 0
+    → slice_cmp bool_cmp (drop n (range_view a)) (drop n (range_view b))
+    ≡ ordering_then (nat_cmp x y) (slice_cmp bool_cmp (drop (n + c) (range_view a)) (drop (n + c) (range_view b)))
+ranges_step a b n c x y g h k l m e f =
+    octets_step (range_view a) (range_view b) (bits_of (8 - c) 0) n c x y k l
+    (omega (arith, m, range_length a (of_leb _ _ g))) (omega (arith, m, range_length b (of_leb _ _ h))) e f
+
+pub ranges_end : (a b : BitRange) (n : ℕ) → IsTrue (is_within a) → IsTrue (is_within b) → min a.length b.length ≤ n → n ≤ min a.length b.length
+    → slice_cmp bool_cmp (drop n (range_view a)) (drop n (range_view b)) ≡ nat_cmp a.length b.length
+ranges_end a b n g h k l =
+    let p : length (range_view a) ≡ a.length = range_length a (of_leb _ _ g) in
+    let q : length (range_view b) ≡ b.length = range_length b (of_leb _ _ h) in
+    bits_end (range_view a) (range_view b) n (omega arith) (omega arith) (omega arith) ∙ ap₂ nat_cmp p q
+
+-- a range in bytes of its own
+pub all_held : (b : BitRange) (k : Kept) (n : ℕ) → IsTrue (is_within b) → k.length ≡ b.length → n ≡ min (8 * length k.bytes) b.length → b.length ≤ n
+    → 8 * length k.bytes < b.length + 8 → byte_bits k.bytes ≡ take (8 * length k.bytes) (range_view b ++ bits_of 8 0)
+    → (bits_view k ≡ range_view b) × IsFull k
+all_held b k n g e i l r f =
+    let q : length (range_view b) ≡ b.length = range_length b (of_leb _ _ g) in
+    let p : length (range_view b) ≡ k.length = q ∙ sym e in
+    let h : Holds (range_view b) k.bytes = (f, omega (arith, q, i, l), omega (arith, q, r)) in
+    (held_view (range_view b) k p h, held_full (range_view b) k p h)
+
+pub range_more : (b : BitRange) (bs : List ℕ) (n c x : ℕ) → IsTrue (is_within b) → n ≡ min (8 * length bs) b.length → n < b.length → c ≡ min 8 (b.length - n)
+    → byte_bits bs ≡ take (8 * length bs) (range_view b ++ bits_of 8 0) → bits_of 8 x ≡ take c (drop n (range_view b)) ++ bits_of (8 - c) 0
+    → byte_bits (bs ++ x ∷ []) ≡ take (8 * length (bs ++ x ∷ [])) (range_view b ++ bits_of 8 0)
+range_more b bs n c x g i l k e f =
+    let p : length (range_view b) ≡ b.length = range_length b (of_leb _ _ g) in
+    let m : n ≡ 8 * length bs = omega (arith, i, l) in
+    let z : 8 * length bs + 8 ≡ 8 * length (bs ++ x ∷ []) = omega (arith, length-append bs (x ∷ [])) in
+    one_more (range_view b) bs c x (omega (arith, p, l, m)) (omega (arith, p, k, m)) e
+    (f ∙ ap (λ j. take c (drop j (range_view b)) ++ bits_of (8 - c) 0) m)
+    ∙ ap (λ j. take j (range_view b ++ bits_of 8 0)) z

@@ -1,15 +1,17 @@
 -- The plain term that a value stands for, and whether what is kept beside its parts is right.
 use Rattle.std.specs.Prelude.{ℕ, ◌+◌, ◌*◌, List, [], ◌∷◌, map, length, take, drop, Bool, true, ◌&&◌, eqb, leb, IsTrue}
+use Rattle.std.specs.List.{All}
 use Rattle.erl_term.specs.Term as Plain
 use Rattle.erl_term.specs.Terms.{terms, pairs}
 use Rattle.erl_term.specs.Depth.{depths, deepest, deepest_pair}
 use Rattle.erl_term.specs.View.{class_view}
-use Rattle.erl_term.specs.WellFormed.{maps_rise}
+use Rattle.erl_term.specs.WellFormed.{maps_rise, pairs_rise}
 use Rattle.erl_term.specs.BitString.{byte_bits}
 use Rattle.shared_term.specs.declared.value.BitRange.{BitRange}
 use Rattle.shared_term.specs.declared.value.External.{External}
 use Rattle.shared_term.specs.declared.value.Value.{Value, fold-Value}
-use Rattle.shared_term.specs.declared.value.ValuePair.{ValuePair, fold-ValuePair}
+use Rattle.shared_term.specs.declared.value.ValuePair.{ValuePair}
+use Rattle.shared_term.specs.declared.value.MapPairs.{MapPairs, out-MapPairs}
 use Rattle.shared_term.specs.declared.value.Value.TheOpen.{Value-F, Cell-F, Row-F, MapPairs-F, ValuePair-F, Local-F}
 use Rattle.shared_term.specs.declared.value.Value.TheOpen as form
 
@@ -87,17 +89,35 @@ pair_step p = record { pair = (p.key.term, p.value.term); right = p.key.right &&
 abbrev pub reading : Value → Reading
 reading = fold-Value Reading Reading Reading MapReading RowReading PairReading value_step cell_step local_step map_step row_step pair_step
 
-abbrev pub pair_reading : ValuePair → PairReading
-pair_reading = fold-ValuePair Reading Reading Reading MapReading RowReading PairReading value_step cell_step local_step map_step row_step pair_step
-
 -- the plain term that a value stands for
 abbrev pub view : Value → Plain.Term
 view v = (reading v).term
 
 abbrev pub pair_view : ValuePair → Plain.Term × Plain.Term
-pair_view p = (pair_reading p).pair
+pair_view p = (view p.key, view p.value)
+
+-- the terms of values in a row, and the pairs of a map
+abbrev pub row : List Value → Plain.Terms
+row vs = terms (map view vs)
+
+abbrev pub pair_row : List ValuePair → Plain.Pairs
+pair_row ps = pairs (map pair_view ps)
+
+-- the pairs of a map
+abbrev pub pairs_of : MapPairs → List ValuePair
+pairs_of m = (out-MapPairs m).pairs
 
 -- what is kept is right, and the pairs of its maps rise by their keys
 pub record IsWhole (v : Value) : Type 0 where
   pub right : IsTrue (reading v).right
   pub rising : IsTrue (maps_rise (view v))
+
+-- a pair of whole values
+pub record IsPairWhole (p : ValuePair) : Type 0 where
+  pub key : IsWhole p.key
+  pub value : IsWhole p.value
+
+-- pairs of whole values whose keys rise, as those of a map do
+pub record AreMapPairs (ps : List ValuePair) : Type 0 where
+  pub parts : All IsPairWhole ps
+  pub rising : IsTrue (pairs_rise (pair_row ps))

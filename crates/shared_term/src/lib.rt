@@ -10,9 +10,12 @@
 
 mod build;
 mod convert;
+mod octets;
+mod order;
 mod parts;
 mod value;
 
 pub use convert::from_term;
+pub use order::compare;
 pub use build::{atom, cons, extern_value, fun_value, tuple};
 pub use value::{BitRange, Cell, External, Local, MapPairs, Row, Value, ValuePair};
