@@ -85,7 +85,7 @@ all_over (x ∷ xs) (y ∷ ys) (suc i) h l m =
 pub ruleset rows = (all_over)
 
 -- lists whose first items are equal compare as what follows them
-cons_view : (u : Value) (v : Rc Cell Global) → u ≡ V.Cons v → view u ≡ P.cons (view v.value.head) (view v.value.tail)
+pub cons_view : (u : Value) (v : Rc Cell Global) → u ≡ V.Cons v → view u ≡ P.cons (view v.value.head) (view v.value.tail)
 cons_view u v e = view-out u ∙ ap shown (ap out-Value e ∙ V.outs-Cons v)
 
 pub cells_step : (x y p q : Cell) (v w : Rc Cell Global) → x.tail ≡ V.Cons v → y.tail ≡ V.Cons w → p ≡ v.value → q ≡ w.value

@@ -49,7 +49,7 @@ pair_right p h =
     let r : IsTrue ((reading p.key).right && (reading p.value).right) = subst (λ (q : PairReading). IsTrue q.right) (pair-out p) h in
     (left_true (reading p.key).right (reading p.value).right r, right_true (reading p.key).right (reading p.value).right r)
 
-first_rises : (k v : Term) (ps : P.Pairs) → IsTrue (pairs_rise (P.pair k v ps)) → IsTrue (maps_rise k) × IsTrue (maps_rise v) × IsTrue (pairs_rise ps)
+pub first_rises : (k v : Term) (ps : P.Pairs) → IsTrue (pairs_rise (P.pair k v ps)) → IsTrue (maps_rise k) × IsTrue (maps_rise v) × IsTrue (pairs_rise ps)
 unfolding maps_rise comes_first
 first_rises k v ps h =
     let a : IsTrue (comes_first k ps && maps_rise k && maps_rise v) = left_true _ (pairs_rise ps) h in

@@ -113,3 +113,17 @@ row_fun_whole fun vs h = record {
   right = subst (λ (q : Reading). IsTrue q.right) (sym (fun-out _ fun refl)) (made_right fun.value.captured vs h);
   rising = subst (λ (q : Reading). IsTrue (maps_rise q.term)) (sym (fun-out _ fun refl)) (made_rises fun.value.captured vs h);
 }
+
+-- how a tuple and a fun read by their rows
+pub tuple_view : (v : Value) (row : Rc Row Global) (r : Row) (vs : List Value) → v ≡ V.Tuple row → r ≡ row.value → vs ≡ r.items → view v ≡ P.tuple (terms (map view vs))
+tuple_view v row r vs e f g =
+    ap (λ (q : Reading). q.term) (tuple-out v row e)
+    ∙ ap (λ ts. P.tuple (terms ts)) (row_terms row.value ∙ ap (map view) (ap (λ (q : Row). q.items) (sym f) ∙ sym g))
+
+pub fun_view : (v : Value) (fun : Rc Local Global) (f : Local) (vs : List Value) → v ≡ V.Fun fun → f ≡ fun.value → vs ≡ f.captured.items
+    → view v ≡ P.fun f.«module» f.site.0 f.arity (terms (map view vs))
+fun_view v fun f vs e g h =
+    ap (λ (q : Reading). q.term) (fun-out v fun e)
+    ∙ ap (λ ts. P.fun fun.value.«module» fun.value.site.0 fun.value.arity (terms ts)) (row_terms fun.value.captured)
+    ∙ ap (λ (l : Local). P.fun l.«module» l.site.0 l.arity (terms (map view l.captured.items))) (sym g)
+    ∙ ap (λ us. P.fun f.«module» f.site.0 f.arity (terms (map view us))) (sym h)

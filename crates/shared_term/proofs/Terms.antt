@@ -3,11 +3,15 @@ use Rattle.std.proofs.Common.{◌≡◌, refl, sym, ap, ◌∙◌, subst, ℕ, z
 use Rattle.std.specs.List.{All}
 use Rattle.erl_base.specs.Names.{Name}
 use Rattle.erl_base.specs.declared.ids.SiteId.{SiteId}
-use Rattle.erl_term.proofs.Forms.{left_true, right_true, both_true, laid, seen, view-out, layout-out, tail_normal, view_as}
+use Rattle.erl_term.proofs.Forms.{left_true, right_true, both_true, laid, seen, view-out, layout-out, tail_normal, NoCell}
 use Rattle.erl_term.specs.Term as P
 use Rattle.erl_term.specs.Terms.{terms, list_of}
-use Rattle.erl_term.specs.View.{view, bits_view}
-use Rattle.erl_term.specs.WellFormed.{Layout, layout, all_normal, has_items, maps_rise, all_rise, IsNormal, IsFull, bits_fit, IsWellFormed}
+use Rattle.erl_term.specs.View.{view, pair_view, bits_view, view_step, pair_step}
+use Rattle.erl_term.specs.WellFormed.{Layout, layout, layout_step, pair_layout_step, pair_normal, all_normal, pairs_normal, has_items, maps_rise, all_rise, pairs_rise, IsNormal, IsFull, IsWellFormed}
+use Rattle.erl_term.specs.WellRows.{IsPairWellFormed}
+use Rattle.erl_term.specs.Comparing.{pair_row}
+use Rattle.erl_term.specs.declared.term.Pair.{Pair, fold_out-Pair}
+use Rattle.shared_term.proofs.Pairs.{first_rises}
 use Rattle.erl_term.specs.declared.term.Bits.{Bits}
 use Rattle.erl_term.specs.declared.term.Term.{Term, out-Term}
 use Rattle.erl_term.specs.declared.term.Term.TheOpen as form
@@ -73,3 +77,120 @@ bits_reads t b e = view-out t ∙ ap seen (ap out-Term e ∙ T.outs-Bits b)
 
 pub bits_full : (t : Term) (b : Bits) → t ≡ T.Bits b → IsWellFormed t → IsFull b
 bits_full t b e h = subst (λ (l : Layout). IsTrue l.normal) (layout-out t ∙ ap laid (ap out-Term e ∙ T.outs-Bits b)) h.normal
+
+-- a map's pairs
+pair_reads : (p : Pair) → pair_view p ≡ (view p.key, view p.value)
+pair_reads p = fold_out-Pair P.Term (P.Term × P.Term) view_step pair_step p
+
+pair_laid : (p : Pair) → IsTrue (pair_normal p) → IsNormal p.key × IsNormal p.value
+pair_laid p h =
+    let r : IsTrue ((layout p.key).normal && (layout p.value).normal) = subst IsTrue (fold_out-Pair Layout Bool layout_step pair_layout_step p) h in
+    (left_true (layout p.key).normal (layout p.value).normal r, right_true (layout p.key).normal (layout p.value).normal r)
+
+each_pair : (ps : List Pair) → IsTrue (pairs_normal (map pair_normal ps)) → IsTrue (pairs_rise (pair_row ps)) → All IsPairWellFormed ps
+each_pair [] g h k d l = absurd (omega arith)
+each_pair (p ∷ ps) g h zero d l =
+    let n : IsNormal p.key × IsNormal p.value = pair_laid p (left_true (pair_normal p) (pairs_normal (map pair_normal ps)) g) in
+    let m : IsTrue (maps_rise (view p.key)) × IsTrue (maps_rise (view p.value)) × IsTrue (pairs_rise (pair_row ps)) =
+    first_rises (view p.key) (view p.value) (pair_row ps) (subst (λ (q : P.Term × P.Term). IsTrue (pairs_rise (P.pair q.0 q.1 (pair_row ps)))) (pair_reads p) h) in
+    record { key = record { normal = n.0; rising = m.0 }; value = record { normal = n.1; rising = m.1 } }
+each_pair (p ∷ ps) g h (suc k) d l =
+    each_pair ps (right_true (pair_normal p) (pairs_normal (map pair_normal ps)) g)
+    (first_rises (pair_view p).0 (pair_view p).1 (pair_row ps) h).2 k d (omega arith)
+
+pub map_term_reads : (t : Term) (ps : List Pair) → t ≡ T.Map ps → view t ≡ P.map (pair_row ps)
+map_term_reads t ps e = view-out t ∙ ap seen (ap out-Term e ∙ T.outs-Map ps)
+
+pub map_term_rises : (t : Term) (ps : List Pair) → t ≡ T.Map ps → IsWellFormed t → IsTrue (pairs_rise (pair_row ps))
+unfolding maps_rise
+map_term_rises t ps e h = subst (λ u. IsTrue (maps_rise u)) (map_term_reads t ps e) h.rising
+
+pub map_term_parts : (t : Term) (ps : List Pair) → t ≡ T.Map ps → IsWellFormed t → All IsPairWellFormed ps
+map_term_parts t ps e h =
+    each_pair ps (subst (λ (l : Layout). IsTrue l.normal) (layout-out t ∙ ap laid (ap out-Term e ∙ T.outs-Map ps)) h.normal) (map_term_rises t ps e h)
+
+-- Terms that are put together of well-formed parts.
+
+normal_of : (ts : List Term) → All IsWellFormed ts → IsTrue (all_normal (map layout ts))
+normal_of [] h = refl
+normal_of (t ∷ ts) h = both_true (layout t).normal (all_normal (map layout ts)) (h 0 t (omega arith)).normal (normal_of ts (λ k d l. h (suc k) d (omega arith)))
+
+rises_of : (ts : List Term) → All IsWellFormed ts → IsTrue (all_rise (terms (map view ts)))
+unfolding maps_rise
+rises_of [] h = refl
+rises_of (t ∷ ts) h = both_true (maps_rise (view t)) (all_rise (terms (map view ts))) (h 0 t (omega arith)).rising (rises_of ts (λ k d l. h (suc k) d (omega arith)))
+
+pairs_normal_of : (ps : List Pair) → All IsPairWellFormed ps → IsTrue (pairs_normal (map pair_normal ps))
+pairs_normal_of [] h = refl
+pairs_normal_of (p ∷ ps) h =
+    let w : IsPairWellFormed p = h 0 p (omega arith) in
+    both_true (pair_normal p) (pairs_normal (map pair_normal ps))
+    (subst IsTrue (sym (fold_out-Pair Layout Bool layout_step pair_layout_step p)) (both_true (layout p.key).normal (layout p.value).normal w.key.normal w.value.normal))
+    (pairs_normal_of ps (λ k d l. h (suc k) d (omega arith)))
+
+pub tuple_made : (ts : List Term) → All IsWellFormed ts → IsWellFormed (T.Tuple ts)
+unfolding maps_rise
+tuple_made ts h = record {
+  normal = subst (λ (l : Layout). IsTrue l.normal) (sym (tuple_laid (T.Tuple ts) ts refl)) (normal_of ts h);
+  rising = subst (λ u. IsTrue (maps_rise u)) (sym (tuple_reads (T.Tuple ts) ts refl)) (rises_of ts h);
+}
+
+pub fun_made : (m : Name) (s : SiteId) (n : ℕ) (ts : List Term) → All IsWellFormed ts → IsWellFormed (T.Fun m s n ts)
+unfolding maps_rise
+fun_made m s n ts h = record {
+  normal = subst (λ (l : Layout). IsTrue l.normal) (sym (layout-out (T.Fun m s n ts) ∙ ap laid (T.outs-Fun m s n ts))) (normal_of ts h);
+  rising = subst (λ u. IsTrue (maps_rise u)) (sym (fun_reads (T.Fun m s n ts) m s n ts refl)) (rises_of ts h);
+}
+
+pub map_made : (ps : List Pair) → All IsPairWellFormed ps → IsTrue (pairs_rise (pair_row ps)) → IsWellFormed (T.Map ps)
+unfolding maps_rise
+map_made ps h r = record {
+  normal = subst (λ (l : Layout). IsTrue l.normal) (sym (layout-out (T.Map ps) ∙ ap laid (T.outs-Map ps))) (pairs_normal_of ps h);
+  rising = subst (λ u. IsTrue (maps_rise u)) (sym (map_term_reads (T.Map ps) ps refl)) r;
+}
+
+list_rises_of : (ts : List P.Term) (u : P.Term) → IsTrue (all_rise (terms ts)) → IsTrue (maps_rise u) → IsTrue (maps_rise (list_of ts u))
+unfolding maps_rise
+list_rises_of [] u g h = h
+list_rises_of (t ∷ ts) u g h =
+    both_true (maps_rise t) (maps_rise (list_of ts u)) (left_true (maps_rise t) (all_rise (terms ts)) g)
+    (list_rises_of ts u (right_true (maps_rise t) (all_rise (terms ts)) g) h)
+
+has_some : (ts : List Term) → 0 < length ts → IsTrue (has_items (map layout ts))
+has_some [] h = absurd (omega (arith, h))
+has_some (t ∷ ts) h = refl
+
+pub list_made : (ts : List Term) (u : Term) → All IsWellFormed ts → 0 < length ts → IsWellFormed u → IsTrue (not (layout u).listed) → IsWellFormed (T.List ts u)
+list_made ts u h s w n = record {
+  normal =
+      subst (λ (l : Layout). IsTrue l.normal) (sym (layout-out (T.List ts u) ∙ ap laid (T.outs-List ts u)))
+      (both_true _ (not (layout u).listed)
+        (both_true _ (layout u).normal (both_true (has_items (map layout ts)) (all_normal (map layout ts)) (has_some ts s) (normal_of ts h)) w.normal) n);
+  rising = subst (λ v. IsTrue (maps_rise v)) (sym (list_reads (T.List ts u) ts u refl)) (list_rises_of (map view ts) (view u) (rises_of ts h) w.rising);
+}
+
+-- what reads as no cell is laid out as no list
+not_list_form : (f : form.Term-F Term Pair) → IsTrue (laid f).normal → NoCell (seen f) → IsTrue (not (laid f).listed)
+not_list_form (form.List [] u) n h = cc
+not_list_form (form.List (t ∷ ts) u) n h = absurd (h refl)
+not_list_form (form.Int z) n h = refl
+not_list_form (form.Atom a) n h = refl
+not_list_form form.Nil n h = refl
+not_list_form (form.Tuple xs) n h = refl
+not_list_form (form.Map ps) n h = refl
+not_list_form (form.Bits b) n h = refl
+not_list_form (form.Fun m s a xs) n h = refl
+not_list_form (form.Extern m f a) n h = refl
+not_list_form (form.Pid k) n h = refl
+not_list_form (form.Reference k) n h = refl
+not_list_form (form.Port k) n h = refl
+not_list_form (form.RawTrace c) n h = refl
+
+pub not_listed : (t : Term) → IsWellFormed t → NoCell (view t) → IsTrue (not (layout t).listed)
+not_listed t w h =
+    subst (λ (l : Layout). IsTrue (not l.listed)) (sym (layout-out t))
+    (not_list_form (out-Term t) (subst (λ (l : Layout). IsTrue l.normal) (layout-out t) w.normal) (subst NoCell (view-out t) h))
+
+pub list_made_of : (ts : List Term) (u v : Term) → All IsWellFormed ts → 0 < length ts → IsWellFormed u → IsTrue (not (layout u).listed) → v ≡ u
+    → IsWellFormed (T.List ts v)
+list_made_of ts u v h s w n e = subst (λ t. IsWellFormed (T.List ts t)) (sym e) (list_made ts u h s w n)

@@ -2,8 +2,7 @@
 use Rattle.std.specs.Prelude.{ℕ, ◌+◌, List, length, take, drop, slice_get, leb, Option, Some, None, if◌then◌else◌}
 use Rattle.erl_term.specs.Term as T
 use Rattle.erl_term.specs.Term.{Term}
-use Rattle.erl_term.specs.TermOrder.{count}
-use Rattle.erl_term.specs.Terms.{listed, value_at}
+use Rattle.erl_term.specs.Terms.{listed, value_at, put}
 
 -- the item of a cell
 abbrev pub head_of : Term → Option Term
@@ -29,3 +28,13 @@ captured_of _ = None
 abbrev pub slice_of : ℕ → ℕ → Term → Option Term
 slice_of from n (T.bits bs) = if leb (from + n) (length bs) then Some (T.bits (take n (drop from bs))) else None
 slice_of from n _ = None
+
+-- the value of a key in a map
+abbrev pub value_of : Term → Term → Option Term
+value_of k (T.map ps) = value_at ps k
+value_of k _ = None
+
+-- a map with this value at this key
+abbrev pub put_of : Term → Term → Term → Option Term
+put_of k v (T.map ps) = Some (T.map (put k v ps))
+put_of k v _ = None

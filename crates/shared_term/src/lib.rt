@@ -10,12 +10,15 @@
 
 mod build;
 mod convert;
+mod maps;
 mod octets;
 mod order;
 mod parts;
+mod plain;
 mod value;
 
-pub use convert::from_term;
+pub use convert::{from_term, to_term};
+pub use maps::put;
 pub use order::compare;
 pub use build::{atom, cons, extern_value, fun_value, tuple};
 pub use value::{BitRange, Cell, External, Local, MapPairs, Row, Value, ValuePair};
