@@ -10,7 +10,15 @@ use Rattle.erl_term.specs.declared.term.Pair.{Pair, fold_out-Pair}
 use Rattle.erl_term.specs.declared.term.Term.{Term}
 use Rattle.shared_term.specs.View.{view, pair_view}
 use Rattle.shared_term.specs.declared.value.Cell.{Cell}
-use Rattle.shared_term.specs.declared.value.Value.{Value}
+use Rattle.shared_term.specs.declared.value.Local.{Local}
+use Rattle.shared_term.specs.declared.value.MapPairs.{MapPairs}
+use Rattle.shared_term.specs.declared.value.Row.{Row}
+use Rattle.shared_term.specs.declared.value.Value.{Value, out-Value}
+use Rattle.shared_term.specs.declared.value.Value.TheOpen.{Value-F}
+use Rattle.shared_term.specs.declared.value.Value.TheOpen as form
+use Rattle.shared_term.specs.declared.value.Value.TheViews.{roll-Value, roll-out-Value}
+use Rattle.erl_term.proofs.Forms.{NoCell}
+use Rattle.shared_term.proofs.Forms.{shown, view-out}
 use Rattle.shared_term.specs.declared.value.Value.TheVariants as V
 use Rattle.shared_term.specs.declared.value.ValuePair.{ValuePair}
 use Rattle.shared_term.proofs.Comparing.{cons_view}
@@ -45,10 +53,10 @@ one_more f g xs new ys i x d l e h k =
     ∙ sym (ap (map g) (take_more ys i d l) ∙ map-append g (take i ys) (get_or ys i d ∷ []))
 
 pub pairs_more : (ps new : List Pair) (qs : List ValuePair) (i : ℕ) (p : Pair) (d : ValuePair) → i < length qs → new ≡ ps ++ p ∷ []
-    → map Kept.pair_view ps ≡ map pair_view (take i qs) → Kept.view p.key ≡ view (get_or qs i d).key → Kept.view p.value ≡ view (get_or qs i d).value
+    → map Kept.pair_view ps ≡ map pair_view (take i qs) → d ≡ get_or qs i d → Kept.view p.key ≡ view d.key → Kept.view p.value ≡ view d.value
     → map Kept.pair_view new ≡ map pair_view (take (i + 1) qs)
-pairs_more ps new qs i p d l e h f g =
-    one_more Kept.pair_view pair_view ps new qs i p d l e h (pair_reads p ∙ ap₂ (λ (x : P.Term) (y : P.Term). (x, y)) f g)
+pairs_more ps new qs i p d l e h k f g =
+    one_more Kept.pair_view pair_view ps new qs i p d l e h (pair_reads p ∙ ap₂ (λ (x : P.Term) (y : P.Term). (x, y)) f g ∙ ap pair_view k)
 
 pub values_more : (qs new : List ValuePair) (ps : List Pair) (i : ℕ) (q : ValuePair) (d : Pair) → i < length ps → new ≡ qs ++ q ∷ []
     → map pair_view qs ≡ map Kept.pair_view (take i ps) → d ≡ get_or ps i d → view q.key ≡ Kept.view d.key → view q.value ≡ Kept.view d.value
@@ -56,3 +64,22 @@ pub values_more : (qs new : List ValuePair) (ps : List Pair) (i : ℕ) (q : Valu
 values_more qs new ps i q d l e h k f g =
     one_more pair_view Kept.pair_view qs new ps i q d l e h
     (ap₂ (λ (x : P.Term) (y : P.Term). (x, y)) f g ∙ sym (pair_reads d) ∙ ap Kept.pair_view k)
+
+-- a value that is no cell reads as none
+no_cons_form : (v : Value) (f : Value-F Value Cell Local MapPairs Row ValuePair) → out-Value v ≡ f → ((cell : Rc Cell Global) → v ≡ V.Cons cell → ⊥) → NoCell (shown f)
+no_cons_form v (form.Cons c) e h = λ r. h c (sym (roll-out-Value v) ∙ ap roll-Value e ∙ V.rolls-Cons c)
+no_cons_form v (form.Int z) e h = λ r. cc
+no_cons_form v (form.Atom a) e h = λ r. cc
+no_cons_form v form.Nil e h = λ r. cc
+no_cons_form v (form.Tuple xs) e h = λ r. cc
+no_cons_form v (form.Map ps) e h = λ r. cc
+no_cons_form v (form.Bits b) e h = λ r. cc
+no_cons_form v (form.Fun f) e h = λ r. cc
+no_cons_form v (form.Extern f) e h = λ r. cc
+no_cons_form v (form.Pid k) e h = λ r. cc
+no_cons_form v (form.Reference k) e h = λ r. cc
+no_cons_form v (form.Port k) e h = λ r. cc
+no_cons_form v (form.RawTrace c) e h = λ r. cc
+
+pub no_cons : (v : Value) → ((cell : Rc Cell Global) → v ≡ V.Cons cell → ⊥) → NoCell (view v)
+no_cons v h = subst NoCell (sym (view-out v)) (no_cons_form v (out-Value v) refl h)

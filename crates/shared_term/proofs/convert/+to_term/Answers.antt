@@ -1,6 +1,7 @@
 use Rattle.std.proofs.Common.{◌≡◌, ◌∙◌, rules, sym, ap, subst, refl, All, map, IsTrue, IfOk, length, [], ◌∷◌, length-append, arith}
 use Rattle.std.proofs.lemmas.List.Elements.{All-push}
 use Rattle.erl_term.specs.View as Kept
+use Rattle.erl_term.proofs.Forms.{NoCell}
 use Rattle.erl_term.specs.Term as P
 use Rattle.erl_term.specs.Terms.{terms, pairs}
 use Rattle.erl_term.specs.WellFormed.{pairs_rise, IsWellFormed}
@@ -11,7 +12,7 @@ use Rattle.shared_term.specs.declared.value.Value.{the_lemmas}
 use Rattle.shared_term.proofs.Pairs.{cell_whole, map_whole, map_reads}
 use Rattle.shared_term.proofs.Rows.{tuple_whole, fun_whole, tuple_view, fun_view}
 use Rattle.shared_term.proofs.Terms.{not_listed}
-use Rattle.shared_term.proofs.Walks.{list_step, list_end, pairs_more}
+use Rattle.shared_term.proofs.Walks.{list_step, list_end, pairs_more, no_cons}
 use Rattle.shared_term.proofs.convert.+to_term.Goals as goal
 
 pub to_term-to_list-requires : goal.to_term-to_list-requires
@@ -65,15 +66,15 @@ to_list-along-preserved t c = record {
 
 pub to_list-list_term-requires : goal.to_list-list_term-requires
 to_list-list_term-requires t c =
-    let new = c.in_ok-push.ensures.ok in
-    let h = c.in_default.not-Cons in
     record {
       items =
           subst (All IsWellFormed) (sym c.in_ok-push.ensures.ok)
           (All-push IsWellFormed c.along.items c.in_ok-to_term.field-0 c.along.invariant.well_formed c.in_ok-to_term.ensures.well_formed);
       some = omega (arith, ap length c.in_ok-push.ensures.ok, length-append c.along.items (c.in_ok-to_term.field-0 ∷ []));
       tail = c.in_ok-tail-in_default.ensures.well_formed;
-      no_list = not_listed c.in_ok-tail-in_default.tail c.in_ok-tail-in_default.ensures.well_formed ?;
+      no_list =
+          not_listed c.in_ok-tail-in_default.tail c.in_ok-tail-in_default.ensures.well_formed
+          (subst NoCell (sym c.in_ok-tail-in_default.ensures.same) (no_cons c.along.at.now.tail c.in_default.not-Cons));
     }
 
 pub to_list-returns-in_default : goal.to_list-returns-in_default
@@ -91,9 +92,13 @@ pub to_pairs-loop-pair-preserved : goal.to_pairs-loop-pair-preserved
 to_pairs-loop-pair-preserved t c = record {
   same =
       pairs_more c.loop-pair.pairs c.push.new.self c.args.values.now c.loop-pair.pair-index _ c.pair-item.result c.loop-pair-test.true c.in_ok-push.ensures.ok
-      c.loop-pair.invariant.same c.in_ok-key.ensures.same c.in_ok-value.ensures.same;
+      c.loop-pair.invariant.same c.pair-item.is c.in_ok-key.ensures.same c.in_ok-value.ensures.same;
   well_formed =
       subst (All IsPairWellFormed) (sym c.in_ok-push.ensures.ok)
       (All-push IsPairWellFormed c.loop-pair.pairs _ c.loop-pair.invariant.well_formed
         (record { key = c.in_ok-key.ensures.well_formed; value = c.in_ok-value.ensures.well_formed }));
 }
+
+pub to_term-returns-in-Fun-clause-same : goal.to_term-returns-in-Fun-clause-same
+to_term-returns-in-Fun-clause-same t c =
+    subst (λ r. IfOk c.to_fun.result (λ term. Kept.view term ≡ r)) (sym (fun_view _ _ _ _ c.in-Fun.is c.deref-in-Fun.ensures refl)) c.to_fun.ensures.same
