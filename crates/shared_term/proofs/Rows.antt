@@ -1,16 +1,18 @@
 -- Rows of values: what tuples and funs read as, and that each value of a whole row is whole.
-use Rattle.std.proofs.Common.{◌≡◌, refl, sym, ap, ◌∙◌, subst, Some, ℕ, zero, suc, ◌<◌, List, [], ◌∷◌, map, length, IsTrue, Bool, true, false, ◌&&◌, eqb, arith}
+use Rattle.std.proofs.Common.{◌≡◌, refl, sym, ap, ◌∙◌, subst, Some, None, Option, ℕ, zero, suc, ◌<◌, ◌≤◌, get_or, List, [], ◌∷◌, map, length, IsTrue, Bool, true, false, ◌&&◌, eqb, arith}
 use Rattle.std.specs.List.{All}
 use Rattle.std.specs.declared.rc.Rc.{Rc}
 use Rattle.std.specs.declared.alloc.Global.{Global}
 use Rattle.erl_term.proofs.Forms.{left_true, right_true, both_true}
 use Rattle.std.proofs.lemmas.Simd.{map-map}
+use Rattle.std.proofs.lemmas.List.{length-map}
 use Rattle.erl_term.specs.Depth.{deepest}
 use Rattle.erl_term.specs.Term as P
 use Rattle.erl_term.specs.Term.{Term}
 use Rattle.erl_term.specs.Terms.{terms, listed}
 use Rattle.erl_term.specs.WellFormed.{maps_rise, all_rise}
-use Rattle.shared_term.specs.Parts.{elements_of, captured_of}
+use Rattle.std.specs.Prelude.{option_map, option_and_then, slice_get}
+use Rattle.shared_term.specs.Parts.{elements_of, element_of, captured_of}
 use Rattle.shared_term.specs.View.{Reading, RowReading, reading, view, all_right, IsWhole}
 use Rattle.shared_term.specs.declared.value.Local.{Local}
 use Rattle.shared_term.specs.declared.value.Row.{Row}
@@ -127,3 +129,36 @@ fun_view v fun f vs e g h =
     ∙ ap (λ ts. P.fun fun.value.«module» fun.value.site.0 fun.value.arity (terms ts)) (row_terms fun.value.captured)
     ∙ ap (λ (l : Local). P.fun l.«module» l.site.0 l.arity (terms (map view l.captured.items))) (sym g)
     ∙ ap (λ us. P.fun f.«module» f.site.0 f.arity (terms (map view us))) (sym h)
+
+-- how many elements a tuple has, and each of them
+some_counted : (vs : List Value) (t : Term) → Some (map view vs) ≡ elements_of t → Some (length vs) ≡ option_map length (elements_of t)
+some_counted vs t e = ap Some (sym (length-map view vs)) ∙ ap (option_map length) e
+
+none_counted : (t : Term) → None ≡ elements_of t → None ≡ option_map length (elements_of t)
+none_counted t e = ap (option_map length) e
+
+pub ruleset elements_counted = (some_counted, none_counted)
+
+slice_get-map : (vs : List Value) (i : ℕ) (d : Value) → i < length vs → slice_get (map view vs) i ≡ Some (view (get_or vs i d))
+slice_get-map [] i d h = absurd (omega (arith, h))
+slice_get-map (v ∷ vs) zero d h = refl
+slice_get-map (v ∷ vs) (suc i) d h = slice_get-map vs i d (omega (arith, h))
+
+slice_get-beyond : (vs : List Value) (i : ℕ) → length vs ≤ i → slice_get (map view vs) i ≡ None
+slice_get-beyond [] i h = refl
+slice_get-beyond (v ∷ vs) zero h = absurd (omega (arith, h))
+slice_get-beyond (v ∷ vs) (suc i) h = slice_get-beyond vs i (omega (arith, h))
+
+abbrev at_place : ℕ → Option (List Term) → Option Term
+at_place n o = option_and_then (λ ts. slice_get ts n) o
+
+some_got : (vs : List Value) (t : Term) (i : ℕ) (d : Value) → i < length vs → Some (map view vs) ≡ elements_of t → Some (view (get_or vs i d)) ≡ element_of i t
+some_got vs t i d h e = sym (slice_get-map vs i d h) ∙ ap (at_place i) e
+
+beyond_got : (vs : List Value) (t : Term) (i : ℕ) → length vs ≤ i → Some (map view vs) ≡ elements_of t → None ≡ element_of i t
+beyond_got vs t i h e = sym (slice_get-beyond vs i h) ∙ ap (at_place i) e
+
+none_got : (t : Term) (i : ℕ) → None ≡ elements_of t → None ≡ element_of i t
+none_got t i e = ap (at_place i) e
+
+pub ruleset element_got = (some_got, beyond_got, none_got)

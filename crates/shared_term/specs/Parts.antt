@@ -1,5 +1,5 @@
 -- The parts of a plain term, as calls give them: None where a term has no such part.
-use Rattle.std.specs.Prelude.{ℕ, ◌+◌, List, length, take, drop, slice_get, leb, Option, Some, None, if◌then◌else◌}
+use Rattle.std.specs.Prelude.{ℕ, ◌+◌, List, length, take, drop, slice_get, option_and_then, leb, Option, Some, None, if◌then◌else◌}
 use Rattle.erl_term.specs.Term as T
 use Rattle.erl_term.specs.Term.{Term}
 use Rattle.erl_term.specs.Terms.{listed, value_at, put}
@@ -18,6 +18,10 @@ tail_of _ = None
 abbrev pub elements_of : Term → Option (List Term)
 elements_of (T.tuple ts) = Some (listed ts)
 elements_of _ = None
+
+-- the element of a tuple at a place, counted from 0
+abbrev pub element_of : ℕ → Term → Option Term
+element_of n t = option_and_then (λ ts. slice_get ts n) (elements_of t)
 
 -- the captured terms of a fun of a module
 abbrev pub captured_of : Term → Option (List Term)

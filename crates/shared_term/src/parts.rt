@@ -1,7 +1,7 @@
-ghost use Rattle.std.specs.Prelude.{◌≡◌, ◌+◌, IfSome, IfOk, All, map, option_map};
+ghost use Rattle.std.specs.Prelude.{◌≡◌, ◌+◌, IfSome, IfOk, All, map, length, option_map};
 ghost use Rattle.erl_term.specs.Term as P;
 ghost use Rattle.erl_term.specs.Terms.{terms};
-ghost use Rattle.shared_term.specs.Parts.{head_of, tail_of, elements_of, captured_of, slice_of};
+ghost use Rattle.shared_term.specs.Parts.{head_of, tail_of, elements_of, element_of, captured_of, slice_of};
 ghost use Rattle.shared_term.specs.View.{view, IsWhole};
 
 use crate::value::{BitRange, Value};
@@ -77,6 +77,31 @@ impl Value {
             | Value::Reference(_)
             | Value::Port(_)
             | Value::RawTrace(_) => None,
+        }
+    }
+
+    /// How many elements a tuple has.
+    #[tactic(auto, using(crate::proofs::Rows::elements_counted))]
+    pub fn tuple_len(&self) -> Option<usize>
+        requires { IsWhole self.now }
+        ensures { result ≡ option_map length (elements_of (view self.now)) }
+    {
+        match self.elements() {
+            Some(elements) => Some(elements.len()),
+            None => None,
+        }
+    }
+
+    /// The element of a tuple at a place, counted from 0.
+    #[tactic(auto, using(crate::proofs::Rows::element_got))]
+    pub fn element(&self, at: usize) -> Option<&Value>
+        requires { IsWhole self.now }
+        ensures element { option_map (λ value. view value.now) result ≡ element_of at (view self.now) }
+        ensures whole { IfSome result (λ value. IsWhole value.now) }
+    {
+        match self.elements() {
+            Some(elements) if at < elements.len() => Some(&elements[at]),
+            Some(_) | None => None,
         }
     }
 

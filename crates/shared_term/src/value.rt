@@ -5,6 +5,7 @@ ghost use Rattle.shared_term.specs.View.{view, range_view, is_within, IsWhole};
 use erl_base::{Bytes, List, Name, NoMemory, SiteId};
 use erl_term::Class;
 use std::alloc::Global;
+use std::mem::size_of;
 use std::rc::Rc;
 
 /// A value of Erlang whose parts are shared.
@@ -33,6 +34,9 @@ pub struct Cell {
     pub head: Value,
     pub tail: Value,
 }
+
+// With its two counts a cell takes 96 bytes.
+const _: () = prove!(size_of::<Cell>() <= 80);
 
 /// The elements of a tuple.
 #[cycle(value)]

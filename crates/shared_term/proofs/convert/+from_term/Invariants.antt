@@ -1,4 +1,4 @@
-use Rattle.std.proofs.Common.{◌≡◌, ◌-◌, ◌≤◌, All, map, take, drop, length}
+use Rattle.std.proofs.Common.{◌≡◌, ◌≤◌, All, map, take, drop, length}
 use Rattle.erl_term.specs.Terms.{list_of}
 use Rattle.erl_term.specs.View as Kept
 use Rattle.shared_term.specs.View.{view, pair_view, IsWhole, IsPairWhole}

@@ -1,4 +1,4 @@
-use Rattle.std.proofs.Common.{◌≡◌, ◌∙◌, rules, sym, ap, subst, refl, All, map, IsTrue, IfOk, length, [], ◌∷◌, length-append, arith}
+use Rattle.std.proofs.Common.{◌≡◌, ◌∙◌, rules, sym, ap, subst, refl, All, IsTrue, IfOk, length, [], ◌∷◌, length-append, arith}
 use Rattle.std.proofs.lemmas.List.Elements.{All-push}
 use Rattle.erl_term.specs.View as Kept
 use Rattle.erl_term.proofs.Forms.{NoCell}
@@ -7,7 +7,7 @@ use Rattle.erl_term.specs.Terms.{terms, pairs}
 use Rattle.erl_term.specs.WellFormed.{pairs_rise, IsWellFormed}
 use Rattle.erl_term.specs.WellRows.{IsPairWellFormed}
 use Rattle.shared_term.specs.Comparing.{IsCellWhole}
-use Rattle.shared_term.specs.View.{view, IsWhole, IsPairWhole, AreMapPairs}
+use Rattle.shared_term.specs.View.{IsWhole, IsPairWhole, AreMapPairs}
 use Rattle.shared_term.specs.declared.value.Value.{the_lemmas}
 use Rattle.shared_term.proofs.Pairs.{cell_whole, map_whole, map_reads}
 use Rattle.shared_term.proofs.Rows.{tuple_whole, fun_whole, tuple_view, fun_view}

@@ -1,4 +1,4 @@
-use Rattle.std.proofs.Common.{◌≡◌, ◌∙◌, rules, ap, refl}
+use Rattle.std.proofs.Common.{◌∙◌, rules, ap}
 use Rattle.erl_term.specs.Depth.{deepest_pair}
 use Rattle.shared_term.specs.View.{pair_row, pairs_of}
 use Rattle.shared_term.specs.declared.value.MapPairs.{MapPairs, out-MapPairs}

@@ -1,8 +1,6 @@
-use Rattle.std.proofs.Common.{◌≡◌, ◌∙◌, ◌++◌, ◌∷◌, [], List, sym, ap, map, take, drop}
-use Rattle.erl_term.specs.Term as P
+use Rattle.std.proofs.Common.{◌≡◌}
 use Rattle.erl_term.specs.Terms.{put}
-use Rattle.shared_term.specs.View.{view, pair_view, pair_row}
-use Rattle.shared_term.specs.declared.value.ValuePair.{ValuePair}
+use Rattle.shared_term.specs.View.{view, pair_row}
 use Rattle.shared_term.proofs.KeyPlaces.{between_pushed, put_whole, put_is_whole}
 use Rattle.shared_term.proofs.maps.put_pair.Goals as goal
 

@@ -1,8 +1,7 @@
-use Rattle.std.proofs.Common.{◌≡◌, ◌≤◌, ◌+◌, ◌++◌, ◌-◌, ◌∙◌, sym, ap, drop, take, min, arith}
-use Rattle.std.specs.Ordering.{nat_cmp, bool_cmp, ordering_then}
+use Rattle.std.proofs.Common.{◌≤◌, ◌+◌, ◌∙◌, sym, ap, drop, min, arith}
+use Rattle.std.specs.Ordering.{bool_cmp, ordering_then}
 use Rattle.std.specs.Cmp.Lexicographic.{slice_cmp}
 use Rattle.erl_term.proofs.Comparing.{decided}
-use Rattle.erl_term.specs.BitString.{bits_of}
 use Rattle.shared_term.proofs.Bits.{range_octet, ranges_step, ranges_end}
 use Rattle.shared_term.specs.View.{range_view}
 use Rattle.shared_term.proofs.octets.compare_ranges.Goals as goal

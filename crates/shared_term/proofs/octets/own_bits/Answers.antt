@@ -1,4 +1,4 @@
-use Rattle.std.proofs.Common.{◌≡◌, ◌∙◌, ◌*◌, ◌+◌, ◌<◌, ◌≤◌, List, [], ◌∷◌, ◌++◌, ℕ, refl, sym, ap, subst, length, length-append, take, arith}
+use Rattle.std.proofs.Common.{◌≡◌, ◌∙◌, ◌*◌, ◌+◌, List, [], ◌∷◌, ◌++◌, ℕ, refl, sym, ap, subst, length, length-append, take, arith}
 use Rattle.erl_term.specs.BitString.{bits_of, byte_bits}
 use Rattle.shared_term.specs.View.{range_view}
 use Rattle.shared_term.proofs.Bits.{range_octet, range_more, all_held}

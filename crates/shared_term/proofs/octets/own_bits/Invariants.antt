@@ -1,4 +1,4 @@
-use Rattle.std.proofs.Common.{◌≡◌, ◌≤◌, ◌<◌, ◌+◌, ◌-◌, ◌*◌, ◌++◌, min, take, length}
+use Rattle.std.proofs.Common.{◌≡◌, ◌<◌, ◌+◌, ◌-◌, ◌*◌, ◌++◌, min, take, length}
 use Rattle.erl_term.specs.BitString.{bits_of, byte_bits}
 use Rattle.shared_term.specs.View.{range_view}
 use Rattle.shared_term.proofs.octets.own_bits.Given as goal

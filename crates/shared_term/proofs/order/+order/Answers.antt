@@ -1,4 +1,4 @@
-use Rattle.std.proofs.Common.{◌∙◌, rules, sym, ap, subst, refl, All}
+use Rattle.std.proofs.Common.{◌∙◌, rules, sym, ap, refl, All}
 use Rattle.std.specs.Ordering.{ordering_then}
 use Rattle.erl_term.proofs.Comparing.{decided}
 use Rattle.erl_term.specs.TermOrder.{compare}
