@@ -131,10 +131,10 @@ fun_view v fun f vs e g h =
     ∙ ap (λ us. P.fun f.«module» f.site.0 f.arity (terms (map view us))) (sym h)
 
 -- how many elements a tuple has, and each of them
-some_counted : (vs : List Value) (t : Term) → Some (map view vs) ≡ elements_of t → Some (length vs) ≡ option_map length (elements_of t)
-some_counted vs t e = ap Some (sym (length-map view vs)) ∙ ap (option_map length) e
+pub some_counted : (vs : List Value) (t : Term) → Some (map view vs) ≡ elements_of t → Some (length vs) ≡ option_map length (elements_of t)
+some_counted vs t e = ap Some (sym (length-map vs view)) ∙ ap (option_map length) e
 
-none_counted : (t : Term) → None ≡ elements_of t → None ≡ option_map length (elements_of t)
+pub none_counted : (t : Term) → None ≡ elements_of t → None ≡ option_map length (elements_of t)
 none_counted t e = ap (option_map length) e
 
 pub ruleset elements_counted = (some_counted, none_counted)
@@ -152,13 +152,13 @@ slice_get-beyond (v ∷ vs) (suc i) h = slice_get-beyond vs i (omega (arith, h))
 abbrev at_place : ℕ → Option (List Term) → Option Term
 at_place n o = option_and_then (λ ts. slice_get ts n) o
 
-some_got : (vs : List Value) (t : Term) (i : ℕ) (d : Value) → i < length vs → Some (map view vs) ≡ elements_of t → Some (view (get_or vs i d)) ≡ element_of i t
+pub some_got : (vs : List Value) (t : Term) (i : ℕ) (d : Value) → i < length vs → Some (map view vs) ≡ elements_of t → Some (view (get_or vs i d)) ≡ element_of i t
 some_got vs t i d h e = sym (slice_get-map vs i d h) ∙ ap (at_place i) e
 
-beyond_got : (vs : List Value) (t : Term) (i : ℕ) → length vs ≤ i → Some (map view vs) ≡ elements_of t → None ≡ element_of i t
+pub beyond_got : (vs : List Value) (t : Term) (i : ℕ) → length vs ≤ i → Some (map view vs) ≡ elements_of t → None ≡ element_of i t
 beyond_got vs t i h e = sym (slice_get-beyond vs i h) ∙ ap (at_place i) e
 
-none_got : (t : Term) (i : ℕ) → None ≡ elements_of t → None ≡ element_of i t
+pub none_got : (t : Term) (i : ℕ) → None ≡ elements_of t → None ≡ element_of i t
 none_got t i e = ap (at_place i) e
 
 pub ruleset element_got = (some_got, beyond_got, none_got)

@@ -44,6 +44,7 @@ same_kind (form.Port a) (form.Port b) = nat_cmp a b
 same_kind (form.RawTrace a) (form.RawTrace b) = nat_cmp (class_rank (class_view a)) (class_rank (class_view b))
 same_kind _ _ = Equal
 
+-- and at two values
 abbrev pub same_kind_of : Value → Value → Ordering
 same_kind_of a b = same_kind (out-Value a) (out-Value b)
 

@@ -158,7 +158,10 @@ fn to_list(alloc: Global, cell: &Cell) -> Result<Term, NoMemory>
 #[cycle(to_term)]
 fn to_fun(alloc: Global, fun: &Local) -> Result<Term, NoMemory>
     requires { All IsWhole fun.now.captured.items }
-    ensures same { IfOk result (λ term. Kept.view term ≡ P.fun fun.now.module fun.now.site.0 fun.now.arity (row fun.now.captured.items)) }
+    ensures same {
+        IfOk result
+        (λ term. Kept.view term ≡ P.fun fun.now.module fun.now.site.0 fun.now.arity (row fun.now.captured.items))
+    }
     ensures well_formed { IfOk result IsWellFormed }
 {
     let captured = to_terms(alloc, fun.captured.items.as_slice())?;

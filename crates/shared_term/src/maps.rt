@@ -81,7 +81,9 @@ pub fn put(alloc: Global, map: &Value, key: Value, value: Value) -> Result<Optio
 fn put_pair(alloc: Global, pairs: &[ValuePair], pair: ValuePair) -> Result<Value, NoMemory>
     requires pairs { AreMapPairs pairs.now }
     requires pair { IsPairWhole pair }
-    ensures map { IfOk result (λ value. view value ≡ P.map (put (view pair.key) (view pair.value) (pair_row pairs.now))) }
+    ensures map {
+        IfOk result (λ value. view value ≡ P.map (put (view pair.key) (view pair.value) (pair_row pairs.now)))
+    }
     ensures whole { IfOk result IsWhole }
 {
     let (first, last) = room(pairs, &pair.key);
