@@ -5,7 +5,7 @@ use Rattle.beam_table.specs.OperandBounds.{source_ok, operand_ok, operands_ok, i
 use Rattle.beam_table.specs.ValidModule.{fun_ok, attribute_ok, Valid}
 use Rattle.term_text.specs.Decimal.{decimal_on}
 use Rattle.term_text.specs.TermText.{texts}
-use Rattle.asm_text.specs.AssemblyText.{printed, AssemblyText}
+use Rattle.asm_text.specs.AssemblyText.{module_text, AssemblyText}
 use Rattle.asm_text.specs.Examples.{one, text_of_one, three, text_of_three}
 
 one_valid : Valid one
@@ -13,7 +13,7 @@ unfolding source_ok operand_ok operands_ok insn_ok fun_ok attribute_ok
 one_valid = record { labels = refl; functions = refl; exports = refl; attributes = refl }
 
 pub one_has_text : AssemblyText text_of_one one
-unfolding printed texts decimal_on encode
+unfolding module_text texts decimal_on encode
 one_has_text = record {
   has_text = record { name = refl; exports = refl; attributes = refl; functions = refl };
   valid = one_valid;
@@ -25,7 +25,7 @@ unfolding source_ok operand_ok operands_ok insn_ok fun_ok attribute_ok
 three_valid = record { labels = refl; functions = refl; exports = refl; attributes = refl }
 
 pub three_has_text : AssemblyText text_of_three three
-unfolding printed texts decimal_on encode
+unfolding module_text texts decimal_on encode
 three_has_text = record {
   has_text = record { name = refl; exports = refl; attributes = refl; functions = refl };
   valid = three_valid;

@@ -39,23 +39,28 @@ rest_on-cons t u r = refl
 
 -- Keys, registers and sources.
 
-pub term_on-key : (f : FunKey) (r : List ℕ) → term_on (key_term f) r ≡ codes "{" ++ (atom_text f.name ++ (codes "," ++ decimal_on f.arity (codes "}" ++ r)))
+pub term_on-key : (f : FunKey) (r : List ℕ)
+    → term_on (key_term f) r ≡ codes "{" ++ (atom_text f.name ++ (codes "," ++ decimal_on f.arity (codes "}" ++ r)))
 unfolding texts
 term_on-key f r = refl
 
-pub term_on-x : (n : ℕ) (r : List ℕ) → term_on (register_term (x_reg n)) r ≡ codes "{x," ++ decimal_on n (codes "}" ++ r)
+pub term_on-x : (n : ℕ) (r : List ℕ)
+    → term_on (register_term (x_reg n)) r ≡ codes "{x," ++ decimal_on n (codes "}" ++ r)
 unfolding texts
 term_on-x n r = refl
 
-pub term_on-y : (n : ℕ) (r : List ℕ) → term_on (register_term (y_reg n)) r ≡ codes "{y," ++ decimal_on n (codes "}" ++ r)
+pub term_on-y : (n : ℕ) (r : List ℕ)
+    → term_on (register_term (y_reg n)) r ≡ codes "{y," ++ decimal_on n (codes "}" ++ r)
 unfolding texts
 term_on-y n r = refl
 
-pub term_on-atom : (a : Name) (r : List ℕ) → term_on (source_term (C.atom a)) r ≡ codes "{atom," ++ (atom_text a ++ (codes "}" ++ r))
+pub term_on-atom : (a : Name) (r : List ℕ)
+    → term_on (source_term (C.atom a)) r ≡ codes "{atom," ++ (atom_text a ++ (codes "}" ++ r))
 unfolding texts
 term_on-atom a r = refl
 
-pub term_on-integer : (z : ℤ) (r : List ℕ) → term_on (source_term (C.integer z)) r ≡ codes "{integer," ++ integer_on z (codes "}" ++ r)
+pub term_on-integer : (z : ℤ) (r : List ℕ)
+    → term_on (source_term (C.integer z)) r ≡ codes "{integer," ++ integer_on z (codes "}" ++ r)
 unfolding texts
 term_on-integer z r = refl
 
@@ -66,7 +71,8 @@ unfolding texts
 insn_on-label l r = refl
 
 pub insn_on-move : (t : Source) (d : Reg) (r : List ℕ)
-    → insn_on (move t d) r ≡ codes "    {move," ++ term_on (source_term t) (codes "," ++ term_on (register_term d) (codes "}.\n" ++ r))
+    → insn_on (move t d) r ≡ codes "    {move,"
+    ++ term_on (source_term t) (codes "," ++ term_on (register_term d) (codes "}.\n" ++ r))
 unfolding texts
 insn_on-move t d r = refl
 
@@ -77,9 +83,11 @@ insn_on-return r = refl
 -- The forms before the code of a function, and those before the functions.
 
 pub head_on-text : (m : Name) (f : AsmFun) (r : List ℕ) → head_on m f r ≡
-    codes "\n{function," ++ (atom_text f.key.name ++ (codes "," ++ decimal_on f.key.arity (codes "," ++ decimal_on f.entry
+    codes "\n{function," ++ (atom_text f.key.name
+    ++ (codes "," ++ decimal_on f.key.arity (codes "," ++ decimal_on f.entry
     (codes "}.\n  {label," ++ decimal_on f.info
-    (codes "}.\n    {func_info,{atom," ++ (atom_text m ++ (codes "},{atom," ++ (atom_text f.key.name ++ (codes "}," ++ decimal_on f.key.arity
+    (codes "}.\n    {func_info,{atom,"
+    ++ (atom_text m ++ (codes "},{atom," ++ (atom_text f.key.name ++ (codes "}," ++ decimal_on f.key.arity
     (codes "}.\n  {label," ++ decimal_on f.entry (codes "}.\n" ++ r)))))))))))
 unfolding texts
 head_on-text m f r = refl

@@ -50,8 +50,8 @@ first_on a r =
     (line_on [] (labels_form a.funs) r)))
 
 -- the printed text
-unfoldable pub printed : AsmModule → List ℕ
-printed a = first_on a (funs_on a.name a.funs [])
+unfoldable pub module_text : AsmModule → List ℕ
+module_text a = first_on a (funs_on a.name a.funs [])
 
 -- Modules that have a text today. Other instructions and names, and attributes, join as the compiler writes them.
 
@@ -83,4 +83,4 @@ pub record HasText (a : AsmModule) : Type 0 where
 pub record AssemblyText (bytes : List ℕ) (a : AsmModule) : Type 0 where
   pub has_text : HasText a
   pub valid : Valid a
-  pub spelled : bytes ≡ encode_utf8_all (printed a)
+  pub spelled : bytes ≡ encode_utf8_all (module_text a)

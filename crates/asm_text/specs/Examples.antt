@@ -1,5 +1,5 @@
 -- Two modules and their texts, letter by letter.
-use Rattle.std.specs.Prelude.{ℕ, pos, negsuc, List, [], ◌∷◌, codes}
+use Rattle.std.specs.Prelude.{ℕ, pos, negsuc, List, [], ◌∷◌, ◌++◌, codes}
 use Rattle.beam_table.specs.Code as C
 use Rattle.beam_table.specs.Code.{reg, x_reg, move, return, AsmModule}
 
@@ -17,10 +17,20 @@ one = record {
   } ∷ [];
 }
 
--- its text
+-- its text, line by line
 abbrev pub text_of_one : List ℕ
 text_of_one =
-    codes "{module,one}.\n{exports,[{one,0}]}.\n{attributes,[]}.\n{labels,3}.\n\n{function,one,0,2}.\n  {label,1}.\n    {func_info,{atom,one},{atom,one},0}.\n  {label,2}.\n    {move,{integer,1},{x,0}}.\n    return.\n"
+    codes "{module,one}.\n"
+    ++ codes "{exports,[{one,0}]}.\n"
+    ++ codes "{attributes,[]}.\n"
+    ++ codes "{labels,3}.\n"
+    ++ codes "\n"
+    ++ codes "{function,one,0,2}.\n"
+    ++ codes "  {label,1}.\n"
+    ++ codes "    {func_info,{atom,one},{atom,one},0}.\n"
+    ++ codes "  {label,2}.\n"
+    ++ codes "    {move,{integer,1},{x,0}}.\n"
+    ++ codes "    return.\n"
 
 -- `f/3` gives its last argument, `g/1` gives `x`, and `h_2@B/0`, which is not exported, gives -170
 abbrev pub three : AsmModule
@@ -51,7 +61,31 @@ three = record {
       ∷ [];
 }
 
--- its text
+-- its text, line by line
 abbrev pub text_of_three : List ℕ
 text_of_three =
-    codes "{module,m}.\n{exports,[{g,1},{f,3}]}.\n{attributes,[]}.\n{labels,12}.\n\n{function,f,3,2}.\n  {label,1}.\n    {func_info,{atom,m},{atom,f},3}.\n  {label,2}.\n    {move,{x,2},{x,0}}.\n    return.\n\n{function,g,1,4}.\n  {label,3}.\n    {func_info,{atom,m},{atom,g},1}.\n  {label,4}.\n    {move,{atom,x},{x,0}}.\n    return.\n\n{function,h_2@B,0,10}.\n  {label,11}.\n    {func_info,{atom,m},{atom,h_2@B},0}.\n  {label,10}.\n    {move,{integer,-170},{x,0}}.\n    return.\n"
+    codes "{module,m}.\n"
+    ++ codes "{exports,[{g,1},{f,3}]}.\n"
+    ++ codes "{attributes,[]}.\n"
+    ++ codes "{labels,12}.\n"
+    ++ codes "\n"
+    ++ codes "{function,f,3,2}.\n"
+    ++ codes "  {label,1}.\n"
+    ++ codes "    {func_info,{atom,m},{atom,f},3}.\n"
+    ++ codes "  {label,2}.\n"
+    ++ codes "    {move,{x,2},{x,0}}.\n"
+    ++ codes "    return.\n"
+    ++ codes "\n"
+    ++ codes "{function,g,1,4}.\n"
+    ++ codes "  {label,3}.\n"
+    ++ codes "    {func_info,{atom,m},{atom,g},1}.\n"
+    ++ codes "  {label,4}.\n"
+    ++ codes "    {move,{atom,x},{x,0}}.\n"
+    ++ codes "    return.\n"
+    ++ codes "\n"
+    ++ codes "{function,h_2@B,0,10}.\n"
+    ++ codes "  {label,11}.\n"
+    ++ codes "    {func_info,{atom,m},{atom,h_2@B},0}.\n"
+    ++ codes "  {label,10}.\n"
+    ++ codes "    {move,{integer,-170},{x,0}}.\n"
+    ++ codes "    return.\n"

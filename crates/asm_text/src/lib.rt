@@ -1,8 +1,23 @@
 //! The text of an assembly module: the printer, and what module a text has. It reads no text.
 //!
-//! Only modules that have a text today are printed: names without quotes, no attributes, moves of registers, atoms
-//! and integers, and returns. Memory may be refused at any time: a body that always refuses it meets the contracts,
-//! and the test shows that the calls succeed.
+//! The function `one/0` with the entry 2, which moves 1 to `{x,0}` and returns, is printed as
+//!
+//! ```text
+//! {function,one,0,2}.
+//!   {label,1}.
+//!     {func_info,{atom,one},{atom,one},0}.
+//!   {label,2}.
+//!     {move,{integer,1},{x,0}}.
+//!     return.
+//! ```
+//!
+//! behind a head with the module's name, its exports and one more than its greatest label.
+//!
+//! Sound, since a text is one definition on the module, and the printer adds to its output what that definition says.
+//! No two modules have one text: `text_has_one_module`.
+//!
+//! Only modules that have a text today are printed: names without quotes, no attributes, moves of registers, atoms and
+//! integers, and returns.
 #![tactic(auto)]
 
 mod encode;
@@ -13,6 +28,3 @@ mod words;
 pub use encode::encoded;
 pub use laws::{examples_have_their_texts, text_has_one_module};
 pub use printer::print;
-
-#[cfg(test)]
-mod tests;

@@ -9,7 +9,7 @@ ghost use Rattle.term_text.specs.Decimal.{decimal_on};
 ghost use Rattle.term_text.specs.TermText.{term_on, rest_on};
 ghost use Rattle.term_text.specs.Printing.{Adds};
 ghost use Rattle.beam_table.specs.ModuleForms.{key_term, function_form, func_info_form, greatest};
-ghost use Rattle.asm_text.specs.AssemblyText.{line_on, insn_on, code_on, head_on, first_on, printed, source_has_text, insn_has_text, HasText, AssemblyText};
+ghost use Rattle.asm_text.specs.AssemblyText.{line_on, insn_on, code_on, head_on, first_on, module_text, source_has_text, insn_has_text, HasText, AssemblyText};
 
 use crate::words::put_str;
 use beam_table::{AsmFun, AsmModule, Insn, Reg, Source};
@@ -20,7 +20,7 @@ use term_text::{put_atom, put_integer, put_number, put_u32};
 /// The printed text of a module. It is the text of this module, and of no other.
 pub fn print(alloc: Global, a: &AsmModule) -> Result<Text, NoMemory>
     requires { HasText (module_view a.now) }
-    ensures text { IfOk result (λ text. text ≡ printed (module_view a.now)) }
+    ensures text { IfOk result (λ text. text ≡ module_text (module_view a.now)) }
     ensures own { IfOk result
         (λ text. Valid (module_view a.now) → AssemblyText (encode_utf8_all text) (module_view a.now)) }
     ensures no_other { IfOk result

@@ -63,11 +63,13 @@ unfolding asm_run
 tags = ((refl, refl), (refl, refl), (refl, refl), (refl, refl))
 
 -- landing: only `try_case` at the tag's slot, and it only so
-landing : BadAfter 3 (allocate 1 1 ∷ try 0 3 ∷ call_ext 1 (erl (codes "exit") 1) ∷ label 3 ∷ move (r x1) x0 ∷ []) (I 1 ∷ []) []
+landing : BadAfter 3 (allocate 1 1 ∷ try 0 3 ∷ call_ext 1 (erl (codes "exit") 1) ∷ label 3 ∷ move (r x1) x0 ∷ [])
+    (I 1 ∷ []) []
     × BadAfter 3 (allocate 2 1 ∷ try 0 3 ∷ call_ext 1 (erl (codes "exit") 1) ∷ label 3 ∷ try_case 1 ∷ []) (I 1 ∷ []) []
     × BadAfter 2 (allocate 1 1 ∷ try 0 3 ∷ label 3 ∷ try_case 0 ∷ []) (I 1 ∷ []) []
     × BadAfter 3 (allocate 1 1 ∷ try 0 3 ∷ call_ext 1 (erl (codes "exit") 1) ∷ label 3 ∷ catch_end 0 ∷ []) (I 1 ∷ []) []
-    × BadAfter 3 (allocate 1 1 ∷ catch 0 3 ∷ call_ext 1 (erl (codes "exit") 1) ∷ label 3 ∷ try_case 0 ∷ []) (I 1 ∷ []) []
+    × BadAfter 3 (allocate 1 1 ∷ catch 0 3 ∷ call_ext 1 (erl (codes "exit") 1) ∷ label 3 ∷ try_case 0 ∷ [])
+    (I 1 ∷ []) []
     × BadAfter 2 (allocate 1 1 ∷ try 0 3 ∷ catch_end 0 ∷ label 3 ∷ try_case 0 ∷ []) (I 1 ∷ []) []
 unfolding asm_run
 landing = ((refl, refl), (refl, refl), (refl, refl), (refl, refl), (refl, refl), (refl, refl))
@@ -85,7 +87,19 @@ window : BadAfter 2 (allocate 1 0 ∷ loop_rec 3 0 ∷ move (r x0) y0 ∷ label 
     × BadAfter 0 (remove_message ∷ []) [] []
     × BadAfter 0 (loop_rec_end 2 ∷ []) [] []
 unfolding asm_run
-window = ((refl, refl), (refl, refl), (refl, refl), (refl, refl), (refl, refl), (refl, refl), (refl, refl), (refl, refl), (refl, refl), (refl, refl), (refl, refl))
+window = (
+  (refl, refl),
+  (refl, refl),
+  (refl, refl),
+  (refl, refl),
+  (refl, refl),
+  (refl, refl),
+  (refl, refl),
+  (refl, refl),
+  (refl, refl),
+  (refl, refl),
+  (refl, refl),
+)
 
 -- operands of another kind
 kinds : BadAfter 0 (get_hd (r x0) x0 ∷ return ∷ []) (T.nil ∷ []) []
@@ -98,18 +112,32 @@ kinds : BadAfter 0 (get_hd (r x0) x0 ∷ return ∷ []) (T.nil ∷ []) []
     × BadAfter 0 (bs_get_tail x0 x0 1 ∷ return ∷ []) (T.bits [] ∷ []) []
     × BadAfter 0 (swap x0 x1 ∷ return ∷ []) (I 1 ∷ []) []
 unfolding asm_run
-kinds = ((refl, refl), (refl, refl), (refl, refl), (refl, refl), (refl, refl), (refl, refl), (refl, refl), (refl, refl), (refl, refl))
+kinds = (
+  (refl, refl),
+  (refl, refl),
+  (refl, refl),
+  (refl, refl),
+  (refl, refl),
+  (refl, refl),
+  (refl, refl),
+  (refl, refl),
+  (refl, refl),
+)
 
 -- what stands at or above Live is unset on the way of a jump, too
-jumped : BadAfter 1 (gc_bif L.Div (Some 3) 1 (i 1 ∷ r x0 ∷ []) x0 ∷ label 3 ∷ move (r x1) x0 ∷ return ∷ []) (I 0 ∷ I 5 ∷ []) []
-    × BadAfter 2 (bs_start_match4 None 2 (r x0) x0 ∷ bs_get_integer2 3 1 x0 (i 8) 1 (record { signed = false; little = false }) x2 ∷ label 3 ∷ move (r x1) x0 ∷ return ∷ []) (T.bits [] ∷ I 5 ∷ []) []
+jumped : BadAfter 1 (gc_bif L.Div (Some 3) 1 (i 1 ∷ r x0 ∷ []) x0 ∷ label 3 ∷ move (r x1) x0 ∷ return ∷ [])
+    (I 0 ∷ I 5 ∷ []) []
+    × BadAfter 2 (bs_start_match4 None 2 (r x0) x0
+    ∷ bs_get_integer2 3 1 x0 (i 8) 1 (record { signed = false; little = false }) x2 ∷ label 3 ∷ move (r x1) x0
+    ∷ return ∷ []) (T.bits [] ∷ I 5 ∷ []) []
 unfolding asm_run
 jumped = ((refl, refl), (refl, refl))
 
 -- leaving: an argument that was never set, one that holds no term, and a return without a value
 leaving : BadAfter 0 (call_ext_only 1 (ext (codes "m") (codes "f") 1) ∷ []) [] []
     × BadAfter 1 (allocate 0 0 ∷ call 1 2 ∷ []) [] []
-    × BadAfter 1 (bs_start_match4 None 1 (r x0) x0 ∷ call_ext_only 1 (ext (codes "m") (codes "f") 1) ∷ []) (T.bits [] ∷ []) []
+    × BadAfter 1 (bs_start_match4 None 1 (r x0) x0 ∷ call_ext_only 1 (ext (codes "m") (codes "f") 1) ∷ [])
+    (T.bits [] ∷ []) []
     × BadAfter 0 (return ∷ []) [] []
 unfolding asm_run
 leaving = ((refl, refl), (refl, refl), (refl, refl), (refl, refl))
@@ -131,4 +159,14 @@ window_too : BadAfter 1 (loop_rec 3 0 ∷ allocate 0 1 ∷ label 3 ∷ []) [] (I
     × BadAfter 2 (allocate 1 0 ∷ loop_rec 3 0 ∷ catch 0 3 ∷ label 3 ∷ []) [] (I 1 ∷ [])
     × BadAfter 2 (allocate 1 0 ∷ loop_rec 3 0 ∷ init_yregs (0 ∷ []) ∷ label 3 ∷ []) [] (I 1 ∷ [])
 unfolding asm_run
-window_too = ((refl, refl), (refl, refl), (refl, refl), (refl, refl), (refl, refl), (refl, refl), (refl, refl), (refl, refl), (refl, refl))
+window_too = (
+  (refl, refl),
+  (refl, refl),
+  (refl, refl),
+  (refl, refl),
+  (refl, refl),
+  (refl, refl),
+  (refl, refl),
+  (refl, refl),
+  (refl, refl),
+)

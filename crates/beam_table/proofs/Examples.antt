@@ -97,7 +97,8 @@ bytes (n ∷ ns) = bits_of 8 n ++ bytes ns
 
 -- the end after k steps, with this mailbox
 abbrev pub after : ℕ → List Insn → List Term → List Term → End
-after k is ts ms = (asm_run (module_of ((codes "f", length ts, is) ∷ [])) (key (codes "f") (length ts)) ts (script ms []) k).end
+after k is ts ms = (asm_run (module_of ((codes "f", length ts, is) ∷ [])) (key (codes "f") (length ts)) ts
+    (script ms []) k).end
 
 -- the first k steps are good, and the next one isn't
 abbrev pub BadAfter : ℕ → List Insn → List Term → List Term → Type 0

@@ -31,7 +31,8 @@ module _ (tail : Bool) (cs : List Activation) where
   one_leaves : (n : ℕ) (m : Machine) (k : Machine → Effect) → One (k (record m { room = 0 })) → One (leaves n m k)
   one_leaves n m k h = one_none m.window _ (one_needs _ _ h)
 
-  one_enters : (a : AsmModule) (l n : ℕ) (ds : List Cell) (u : Machine) → Deeper tail cs u.callers → One (function_at a l n λ s f. enters a tail s f ds u)
+  one_enters : (a : AsmModule) (l n : ℕ) (ds : List Cell) (u : Machine) → Deeper tail cs u.callers
+      → One (function_at a l n λ s f. enters a tail s f ds u)
   one_enters a l n ds u d = one_some (entry_at a.funs l 0) _ λ f. one_needs _ _ (inr (f.0, _, refl, d))
 
 only_enters : (a : AsmModule) (n l : ℕ) (m : Machine) → EntersOne true m.callers (do_call_only a n l m)
@@ -42,8 +43,12 @@ only_enters a n l m = one_none true m.callers m.frame _
 pub local_calls_enter_one : (a : AsmModule) → LocalCallsEnterOne a
 unfolding act
 local_calls_enter_one a = record {
-  call = λ n l m. one_frame false m.callers m.frame _ λ ys. one_leaves false m.callers n m (λ u. function_at a l n λ s f. enters a false s f (take n u.xs) (suspended u))
-      (one_enters false m.callers a l n (take n m.xs) (suspended (record m { room = 0 })) (record { frame = m.frame; back = m.code }, refl));
+  call = λ n l m. one_frame false m.callers m.frame _ λ ys. one_leaves false m.callers n m
+      (λ u. function_at a l n λ s f. enters a false s f (take n u.xs) (suspended u))
+      (one_enters false m.callers a l n (take n m.xs) (suspended (record m { room = 0 }))
+      (record { frame = m.frame; back = m.code }, refl));
   only = λ n l m. only_enters a n l m;
-  last = λ n l k m. one_none true m.callers m.window _ (one_frame true m.callers m.frame _ λ ys. one_needs true m.callers _ (do_call_only a n l (record m { frame = None })) (only_enters a n l (record m { frame = None })));
+  last = λ n l k m. one_none true m.callers m.window _
+      (one_frame true m.callers m.frame _ λ ys. one_needs true m.callers _
+      (do_call_only a n l (record m { frame = None })) (only_enters a n l (record m { frame = None })));
 }

@@ -20,7 +20,8 @@ and_true b e = ap (λ c. c && true) e
 
 -- operands that each item gives are of the kinds that one item gives
 each_again : {A : Type 0} (ks : List Kind) (f : A → Operands → Operands)
-    → ((a : A) (r : Operands) → come_again ks [] (f a r) ≡ come_again ks [] r) → (as' : List A) → come_again ks [] (each f as') ≡ true
+    → ((a : A) (r : Operands) → come_again ks [] (f a r) ≡ come_again ks [] r) → (as' : List A)
+    → come_again ks [] (each f as') ≡ true
 each_again ks f h [] = refl
 each_again ks f h (a ∷ as') = h a (each f as') ∙ each_again ks f h as'
 
@@ -33,11 +34,13 @@ type_named : (t : TypeTest) → same_name (type_name (type_view t)) (type_name (
 type_named TT.IsAtom = refl
 type_named t = refl
 
-comparison_named : (c : Comparison) → same_name (comparison_name (comparison_view c)) (comparison_name (comparison_view c)) ≡ true
+comparison_named : (c : Comparison)
+    → same_name (comparison_name (comparison_view c)) (comparison_name (comparison_view c)) ≡ true
 comparison_named CT.IsEq = refl
 comparison_named c = refl
 
-pub has_its_row : (i : Insn) → IsTrue (has_row (opcode_row (opcode_of i)) (operands (insn_view i)).0 (operands (insn_view i)).1)
+pub has_its_row : (i : Insn)
+    → IsTrue (has_row (opcode_row (opcode_of i)) (operands (insn_view i)).0 (operands (insn_view i)).1)
 has_its_row (V.InitYregs ns) = listed K.Slots _ (λ a r. refl) ns
 has_its_row (V.PutTuple2 d ss) = listed K.Sources _ (λ a r. refl) (map source_view ss)
 has_its_row (V.MakeFun3 l s d ss) = listed K.Sources _ (λ a r. refl) (map source_view ss)

@@ -19,21 +19,27 @@ use Rattle.beam_table.specs.MachineState.{Kind, Cell, unset, position, Activatio
 -- A step enters at most one function, and then goes on there; a tail entry adds no activation, another one adds
 -- one. Without an entry no activation is added, and those that stay are as before.
 pub step_fine : (a : AsmModule) (m : Machine) → Fine m.callers (step a m)
-step_fine a m = step_q a m.callers (λ s w. Fine m.callers s) (λ w. tt) (λ w o. tt) (λ u s. s) (λ e u d. d) (λ n u w s e. s) (λ w n s q. q) (λ w s q. q) (λ w q f h. h) m refl
+step_fine a m = step_q a m.callers (λ s w. Fine m.callers s) (λ w. tt) (λ w o. tt) (λ u s. s) (λ e u d. d)
+    (λ n u w s e. s) (λ w n s q. q) (λ w s q. q) (λ w q f h. h) m refl
 
 -- No step but an event's changes the mailbox.
 pub step_by_events : (a : AsmModule) (m : Machine) → ByEvents (inbox m) (step a m)
-step_by_events a m = step_q a m.callers (λ s w. ByEvents w s) (λ w. tt) (λ w o. tt) (λ u s. refl) (λ e u d. refl) (λ n u w s e. e) (λ w n s q. q) (λ w s q. q) (λ w q f h. h) m refl
+step_by_events a m = step_q a m.callers (λ s w. ByEvents w s) (λ w. tt) (λ w o. tt) (λ u s. refl) (λ e u d. refl)
+    (λ n u w s e. e) (λ w n s q. q) (λ w s q. q) (λ w q f h. h) m refl
 
-module _ (f : Machine → List Reply → List Event → Ran) (k : ℕ) (bound : (m : Machine) (rs : List Reply) (log : List Event) → length (sites (f m rs log).log) ≤ k + length (sites log)) where
-  entered_bound : (cs : List Activation) (e : Entry) (s : Effect) → Entered cs e s → (rs : List Reply) (log : List Event) → length (sites (perform s f rs log).log) ≤ k + length (sites log)
+module _ (f : Machine → List Reply → List Event → Ran) (k : ℕ)
+    (bound : (m : Machine) (rs : List Reply) (log : List Event) → length (sites
+    (f m rs log).log) ≤ k + length (sites log)) where
+  entered_bound : (cs : List Activation) (e : Entry) (s : Effect) → Entered cs e s
+      → (rs : List Reply) (log : List Event) → length (sites (perform s f rs log).log) ≤ k + length (sites log)
   entered_bound cs e (goes u) h rs log = bound u rs log
   entered_bound cs e (ends o) h rs log = absurd h
   entered_bound cs e bad h rs log = absurd h
   entered_bound cs e (notes n s) h rs log = absurd h
   entered_bound cs e (asks q g) h rs log = absurd h
 
-  perform_bound : (cs : List Activation) (s : Effect) → Fine cs s → (rs : List Reply) (log : List Event) → length (sites (perform s f rs log).log) ≤ suc k + length (sites log)
+  perform_bound : (cs : List Activation) (s : Effect) → Fine cs s → (rs : List Reply) (log : List Event)
+      → length (sites (perform s f rs log).log) ≤ suc k + length (sites log)
   perform_bound cs (goes u) h rs log = omega (arith, bound u rs log)
   perform_bound cs (ends o) h rs log = omega arith
   perform_bound cs bad h rs log = omega arith
@@ -45,10 +51,12 @@ module _ (f : Machine → List Reply → List Event → Ran) (k : ℕ) (bound : 
   perform_bound cs (asks q g) h (r ∷ rs) log = perform_bound cs (g r) (h r) rs (happened (asked q r) ∷ log)
 
 -- k steps enter at most k functions
-pub entries_bound : (a : AsmModule) (k : ℕ) (m : Machine) (rs : List Reply) (log : List Event) → length (sites (run (step a) k m rs log).log) ≤ k + length (sites log)
+pub entries_bound : (a : AsmModule) (k : ℕ) (m : Machine) (rs : List Reply) (log : List Event)
+    → length (sites (run (step a) k m rs log).log) ≤ k + length (sites log)
 unfolding run
 entries_bound a zero m rs log = omega arith
-entries_bound a (suc k) m rs log = perform_bound (run (step a) k) k (entries_bound a k) m.callers (step a m) (step_fine a m) rs log
+entries_bound a (suc k) m rs log =
+    perform_bound (run (step a) k) k (entries_bound a k) m.callers (step a m) (step_fine a m) rs log
 
 -- What a raise does to the stack: it drops the activations without a tag up to the first that has one.
 
@@ -64,7 +72,8 @@ module _ (a : AsmModule) (c : Class) (r : Term) (m : Machine) where
   unwinds_past [] gs h = refl
   unwinds_past (f ∷ fs) gs h = ap (λ o. found o f (fs ++ gs)) h.0 ∙ unwinds_past fs gs h.1
 
-  pub unwinds_at : (f : Activation) (fs : List Activation) (t : Kind × ℕ) → tag_of f.frame ≡ Some t → unwinds a (f ∷ fs) c r m ≡ lands a t.0 t.1 c r (record m { frame = f.frame; callers = fs })
+  pub unwinds_at : (f : Activation) (fs : List Activation) (t : Kind × ℕ) → tag_of f.frame ≡ Some t
+      → unwinds a (f ∷ fs) c r m ≡ lands a t.0 t.1 c r (record m { frame = f.frame; callers = fs })
   unfolding found
   unwinds_at f fs t h = ap (λ o. found o f fs) h
 
@@ -122,15 +131,20 @@ cut_for (Some n) w m = cut n w m
 
 pub act_cut : (a : AsmModule) (i : Insn) (w : ℕ) (m : Machine) → act a i m ≡ act a i (cut_for (live_of i) w m)
 unfolding act
-act_cut a (allocate n k) w m = ap (λ s. outside_window m (no_frame m s)) (collects_cut k w m λ u. goes (record u { frame = Some (replicate n unset); room = 0 }))
-act_cut a (allocate_heap n v k) w m = ap (λ s. outside_window m (no_frame m s)) (collects_cut k w m λ u. goes (record u { frame = Some (replicate n unset); room = v }))
+act_cut a (allocate n k) w m = ap (λ s. outside_window m (no_frame m s))
+    (collects_cut k w m λ u. goes (record u { frame = Some (replicate n unset); room = 0 }))
+act_cut a (allocate_heap n v k) w m = ap (λ s. outside_window m (no_frame m s))
+    (collects_cut k w m λ u. goes (record u { frame = Some (replicate n unset); room = v }))
 act_cut a (test_heap v k) w m = collects_cut k w m λ u. goes (record u { room = v })
-act_cut a (put_map_assoc s d k ps) w m = collects_cut k w m λ u. read u s λ t. read_pairs u ps λ qs. answers a None (put_in false qs t) d u
-act_cut a (put_map_exact s d k ps) w m = collects_cut k w m λ u. read u s λ t. read_pairs u ps λ qs. answers a None (put_in true qs t) d u
+act_cut a (put_map_assoc s d k ps) w m =
+    collects_cut k w m λ u. read u s λ t. read_pairs u ps λ qs. answers a None (put_in false qs t) d u
+act_cut a (put_map_exact s d k ps) w m =
+    collects_cut k w m λ u. read u s λ t. read_pairs u ps λ qs. answers a None (put_in true qs t) d u
 act_cut a (bs_start_match4 l k s d) w m = collects_cut k w m λ u. read_cell u s λ c. starts a l c d u
 act_cut a (bs_get_integer2 l k c s j f d) w m = collects_cut k w m λ u.
     takes_segment a (number_shape j f) l c s u λ bs v. write_term v d (segment_value (number_shape j f) bs) goes
-act_cut a (bs_get_binary2 l k c s j f d) w m = collects_cut k w m λ u. takes_segment a (shape true s j f) l c s u λ bs v. write_sub v d bs
+act_cut a (bs_get_binary2 l k c s j f d) w m =
+    collects_cut k w m λ u. takes_segment a (shape true s j f) l c s u λ bs v. write_sub v d bs
 act_cut a (bs_get_tail c d k) w m = collects_cut k w m λ u. context_in u c λ n v. write_sub u d (rest_of v)
 act_cut a (bs_get_position c d k) w m = collects_cut k w m λ u. context_in u c λ n v. write u d (position v.at) goes
 act_cut a (bs_create_bin l k j d gs) w m = collects_cut k w m λ u. read_segments u gs λ o. creates a o l d u

@@ -6,7 +6,7 @@ use Rattle.erl_term.specs.Segments.{Shape, joined, built, taken_size, segment_va
 use Rattle.step_machine.specs.Frames.{MatchContext, rest_of, moved}
 use Rattle.step_machine.specs.Steps.{goes, bad, notes, sub_binary}
 use Rattle.beam_table.specs.Code as C
-use Rattle.world_model.specs.Requests.{badarg}
+use Rattle.bif_table.specs.BuiltinAnswer.{badarg}
 use Rattle.beam_table.specs.Code.{Reg, Source, Flags, Segment, AsmModule}
 use Rattle.beam_table.specs.MachineState.{Cell, Machine, term, context, position}
 use Rattle.beam_table.specs.GeneralRules.{Effect, if_some, read_reg, read_cell, read, write, write_term, collects, jumps, or_jumps, or_raises}

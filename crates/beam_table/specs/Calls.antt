@@ -2,12 +2,13 @@
 use Rattle.std.specs.Prelude.{ℕ, suc, ◌+◌, ◌-◌, List, [], ◌∷◌, ◌++◌, length, slice_get, get_or, take, Bool, true, false, ◌&&◌, eqb, leb, Option, Some, None, if◌then◌else◌, codes}
 use Rattle.erl_base.specs.Names.{Name, same_name}
 use Rattle.erl_term.specs.Term as T
-use Rattle.erl_term.specs.Term.{Term, none, more}
+use Rattle.erl_term.specs.Term.{Term}
 use Rattle.erl_term.specs.Terms.{terms, listed, tagged, list_of}
-use Rattle.bif_table.specs.Builtins.{lookup, raises_always}
-use Rattle.bif_table.specs.BuiltinAnswer.{Answer, value, raised, answer}
+use Rattle.bif_table.specs.Builtins.{lookup, never_returns}
+use Rattle.bif_table.specs.BuiltinAnswer.{Answer, value, raised, answer, badarg}
 use Rattle.world_model.specs.World as W
-use Rattle.world_model.specs.Requests.{badarg, is_send}
+use Rattle.world_model.specs.RemoteCalls.{badarity}
+use Rattle.world_model.specs.Requests.{is_send}
 use Rattle.world_model.specs.World.{Reply}
 use Rattle.step_machine.specs.Steps.{goes, notes, entered}
 use Rattle.beam_table.specs.Code.{Reg, x_reg, Source, reg, Extern, AsmFun, AsmModule}
@@ -17,10 +18,6 @@ use Rattle.beam_table.specs.GeneralRules.{Effect, needs, in_frame, no_frame, if_
 -- the running activation waits above the one that comes
 abbrev pub suspended : Machine → Machine
 suspended m = record m { callers = record { frame = m.frame; back = m.code } ∷ m.callers; frame = None }
-
--- a function of the module erlang that always raises
-abbrev pub never_returns : Extern → Bool
-never_returns e = same_name e.mod_name (codes "erlang") && raises_always e.name e.arity
 
 -- needs a frame but in this case
 abbrev pub frame_unless : Bool → Machine → Effect → Effect
@@ -109,7 +106,7 @@ module _ (a : AsmModule) where
   -- {call_ext,A,{extfunc,M,F,A}}: needs a frame unless the function always raises
   unfoldable pub do_call_ext : ℕ → Extern → Machine → Effect
   unfolding call_any
-  do_call_ext n e m = frame_unless (never_returns e) m (call_any n e m alone)
+  do_call_ext n e m = frame_unless (never_returns e.mod_name e.name e.arity) m (call_any n e m alone)
 
   -- {call_ext_only,A,{extfunc,M,F,A}}: needs no frame; answers, and goes on as return does
   unfoldable pub do_call_ext_only : ℕ → Extern → Machine → Effect
@@ -134,10 +131,6 @@ module _ (a : AsmModule) where
   do_make_fun l s d ss m = if_some (slice_get a.funs s) λ f.
       needs (eqb f.entry l && leb (length ss) f.key.arity) (builds (4 + length ss) m λ u. read_all u ss λ ts.
       write_term u d (T.fun a.name s (f.key.arity - length ss) (terms ts)) goes)
-
-  -- the reason of a call with another number of arguments
-  abbrev pub badarity : Term → List Term → Term
-  badarity t ts = tagged (codes "badarity") (T.tuple (more t (more (list_of ts T.nil) none)))
 
   -- function s, if it is there with n parameters
   abbrev pub with_arity : Option AsmFun → ℕ → Option AsmFun

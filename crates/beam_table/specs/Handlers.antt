@@ -6,7 +6,7 @@ use Rattle.erl_term.specs.Terms.{tagged}
 use Rattle.world_model.specs.World as W
 use Rattle.step_machine.specs.Frames.{no_tags}
 use Rattle.step_machine.specs.Steps.{goes, bad}
-use Rattle.world_model.specs.Requests.{badarg}
+use Rattle.bif_table.specs.BuiltinAnswer.{badarg}
 use Rattle.beam_table.specs.Code.{x_reg, Source, reg, AsmModule}
 use Rattle.beam_table.specs.MachineState.{Kind, Cell, Machine, a_try, a_catch, unset, killed, tag}
 use Rattle.beam_table.specs.GeneralRules.{Effect, needs, tag_in, with_cell, in_frame, read, outside_window, alone, leaves, raising, asking}

@@ -11,12 +11,15 @@ use Rattle.beam_table.specs.Operands.{Operand, Operands, operands, source, regis
 
 -- The limits of the machine and of its text.
 
+-- the greatest number of an x register
 abbrev pub most_x_register : ℕ
 most_x_register = 1022
 
+-- the most arguments that a function has
 abbrev pub most_arity : ℕ
 most_arity = 255
 
+-- the most bits that a segment's unit has
 abbrev pub most_unit : ℕ
 most_unit = 256
 

@@ -1,8 +1,7 @@
 -- The conditions of a valid module: what a module of an assembly text meets.
-use Rattle.std.specs.Prelude.{ℕ, List, [], ◌∷◌, ◌++◌, map, Bool, true, false, not, ◌&&◌, ◌||◌, leb, IsTrue}
+use Rattle.std.specs.Prelude.{ℕ, List, [], ◌∷◌, ◌++◌, map, Bool, true, false, not, ◌&&◌, leb, IsTrue}
 use Rattle.erl_base.specs.Lists.{among}
-use Rattle.erl_base.specs.Names.{Name, same_key}
-use Rattle.erl_base.specs.declared.ids.FunKey.{FunKey}
+use Rattle.erl_base.specs.Names.{Name, is_key, keys_distinct}
 use Rattle.erl_term.specs.Term.{Term}
 use Rattle.beam_table.specs.Code.{Insn, label, AsmFun, AsmModule}
 use Rattle.erl_term.specs.WellFormed.{maps_rise}
@@ -52,16 +51,6 @@ unfoldable pub fun_ok : List ℕ → AsmFun → Bool
 unfolding insn_ok
 fun_ok es f =
     leb f.key.arity most_arity && every (λ i. insn_ok i && names_own (labels_of f) i && names_entries es i) f.code
-
--- whether a function is one of these
-abbrev pub is_key : FunKey → List FunKey → Bool
-is_key f [] = false
-is_key f (g ∷ gs) = same_key f g || is_key f gs
-
--- no function twice
-abbrev pub keys_distinct : List FunKey → Bool
-keys_distinct [] = true
-keys_distinct (f ∷ fs) = not (is_key f fs) && keys_distinct fs
 
 -- an attribute that a text can hold
 unfoldable pub attribute_ok : Name × Term → Bool

@@ -34,7 +34,8 @@ happenings-reverse (Run.happened h ∷ ns) =
     ap Run.happenings (reverse-cons (Run.happened h) ns) ∙ happenings-append (reverse ns) (Run.happened h ∷ [])
     ∙ ap (λ l. l ++ h ∷ []) (happenings-reverse ns) ∙ sym (reverse-cons h (Run.happenings ns))
 happenings-reverse (n ∷ ns) =
-    ap Run.happenings (reverse-cons n ns) ∙ happenings-append (reverse ns) (n ∷ []) ∙ append_nil _ ∙ happenings-reverse ns
+    ap Run.happenings (reverse-cons n ns) ∙ happenings-append (reverse ns) (n ∷ []) ∙ append_nil _
+    ∙ happenings-reverse ns
 
 entries-append : (a b : List Run.Note) → Run.entries (a ++ b) ≡ Run.entries a ++ Run.entries b
 entries-append [] b = refl
@@ -90,7 +91,8 @@ tails-reverse (x ∷ xs) (y ∷ ys) h =
     (subst (λ l. KeepsTails (reverse xs ++ x ∷ []) l) (sym (reverse-cons y ys))
     (tails-append (reverse xs) (reverse ys) (x ∷ []) (y ∷ []) (tails-reverse xs ys h.1) (h.0, tt)))
 
-leaves-append : (xs : List Looked) (ns : List ℕ) (ys : List Looked) (ms : List ℕ) → LeavesOut xs ns → LeavesOut ys ms → LeavesOut (xs ++ ys) (ns ++ ms)
+leaves-append : (xs : List Looked) (ns : List ℕ) (ys : List Looked) (ms : List ℕ) → LeavesOut xs ns → LeavesOut ys ms
+    → LeavesOut (xs ++ ys) (ns ++ ms)
 leaves-append [] [] ys ms h g = g
 leaves-append [] (n ∷ ns) ys ms h g = absurd h
 leaves-append (x ∷ xs) [] ys [] h g = (h.0, leaves-append xs [] ys [] h.1 g)
@@ -100,7 +102,8 @@ leaves-append (x ∷ xs) (n ∷ ns) ys ms h g = ⊎_elim
     (λ e. inr (e.0, leaves-append xs (n ∷ ns) ys ms e.1 g)) h
 
 -- one more look that isn't accepted
-skip_last : (xs : List Looked) (ns : List ℕ) (x : Looked) → LeavesOut xs ns → IsFalse x.accepted → LeavesOut (xs ++ x ∷ []) ns
+skip_last : (xs : List Looked) (ns : List ℕ) (x : Looked) → LeavesOut xs ns → IsFalse x.accepted
+    → LeavesOut (xs ++ x ∷ []) ns
 skip_last [] [] x h e = (e, tt)
 skip_last [] (n ∷ ns) x h e = absurd h
 skip_last (y ∷ xs) [] x h e = (h.0, skip_last xs [] x h.1 e)
@@ -129,7 +132,8 @@ module _ (choices : List Bool) where
     happenings = ap reverse w.noted.happened ∙ sym (happenings-reverse e.notes);
     sites = ap reverse w.noted.entered ∙ sym (sites-reverse e.notes);
     end = w.end;
-    examined = subst (λ l. LeavesOut l (examined_in r)) (sym (looks-reverse e.notes)) (leaves-reverse _ _ w.noted.looked);
+    examined = subst (λ l. LeavesOut l (examined_in r)) (sym (looks-reverse e.notes))
+        (leaves-reverse _ _ w.noted.looked);
   }
 
   module _ (run : ℕ → Ran) (eval : ℕ → Meant) where
@@ -143,8 +147,10 @@ module _ (choices : List Bool) where
     follows_said w = record {
       core_run_is_matched = λ n. let v = w.reaches n in (v.0, reaches_said _ _ v.1);
       machine_run_is_matched = λ k. let v = w.within k in record {
-        happenings = subst (λ n. Said.IsPrefix (happened_in (run k)) (ordered choices (eval n)).happenings) (same_bound k)
-            (subst (λ l. Said.IsPrefix (happened_in (run k)) l) (sym (happenings-reverse (eval (bound_of (run k))).notes)) (prefix_said _ _ v.0));
+        happenings = subst (λ n. Said.IsPrefix (happened_in (run k)) (ordered choices (eval n)).happenings)
+            (same_bound k)
+            (subst (λ l. Said.IsPrefix (happened_in (run k)) l)
+            (sym (happenings-reverse (eval (bound_of (run k))).notes)) (prefix_said _ _ v.0));
         sites = subst (λ n. sites_in (run k) ≡ site_list (ordered choices (eval n)).entries) (same_bound k)
             (ap reverse v.1 ∙ sym (sites-reverse (eval (bound_of (run k))).notes));
         ends = λ o q.
@@ -159,5 +165,9 @@ module _ (choices : List Bool) where
 
     pub tails_said : OneWay run eval → Said.FollowsTails run (λ n. ordered choices (eval n))
     tails_said w n =
-        let v = w.reaches n in
-        (v.0, reaches_said _ _ v.1, subst (λ l. KeepsTails l (entered_in (run v.0))) (sym (entries-reverse (eval n).notes)) (tails-reverse _ _ v.1.noted.tails))
+        let v = w.reaches n in (
+          v.0,
+          reaches_said _ _ v.1,
+          subst (λ l. KeepsTails l (entered_in (run v.0)))
+              (sym (entries-reverse (eval n).notes)) (tails-reverse _ _ v.1.noted.tails),
+        )

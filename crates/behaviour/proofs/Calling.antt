@@ -22,32 +22,69 @@ abbrev pub ready : List Insn → List Cell → Option (List Cell) → List Activ
 ready is cs f a m = record m { xs = cs; frame = f; callers = a; save = 0; window = None; code = is; landing = None }
 
 -- what holds doesn't speak of registers, frames, room and code
-pub holds_ready : (own : Term) (s : State) (m : Machine) (is : List Insn) (cs : List Cell) (f : Option (List Cell)) (a : List Activation) → Holds own s m → Holds own s (ready is cs f a m)
-holds_ready own s m is cs f a h = record { own = h.own; mailbox = h.mailbox; next_serial = h.next_serial; save = refl; window = refl; landing = refl }
+pub holds_ready : (own : Term) (s : State) (m : Machine) (is : List Insn) (cs : List Cell) (f : Option (List Cell))
+    (a : List Activation) → Holds own s m → Holds own s (ready is cs f a m)
+holds_ready own s m is cs f a h = record {
+  own = h.own;
+  mailbox = h.mailbox;
+  next_serial = h.next_serial;
+  save = refl;
+  window = refl;
+  landing = refl;
+}
 
-module _ (a : AsmModule) (own : Term) (l s : ℕ) (f : AsmFun) (vs : Values) (found : entry_at a.funs l 0 ≡ Some (s, f)) (arity : eqb f.key.arity (length vs) ≡ true) where
+module _ (a : AsmModule) (own : Term) (l s : ℕ) (f : AsmFun) (vs : Values) (found : entry_at a.funs l 0 ≡ Some (s, f))
+    (arity : eqb f.key.arity (length vs) ≡ true) where
   function_is : slice_get a.funs s ≡ Some f
-  function_is = let w = entry_found a.funs l 0 s f found in subst (λ k. slice_get a.funs k ≡ Some f) (omega (arith, w.2)) w.1
+  function_is = let w = entry_found a.funs l 0 s f found
+      in subst (λ k. slice_get a.funs k ≡ Some f) (omega (arith, w.2)) w.1
 
   arity_is : length vs ≡ f.key.arity
   arity_is = sym (eqb→eq f.key.arity (length vs) (rw arity tt))
 
-  entry_is : (above : List Activation) (m : Machine) → AtEntry a s vs above (record m { xs = cells vs; frame = None; callers = above; code = f.code })
-  entry_is above m = record { function = f; found = function_is; arity = arity_is; code = refl; xs = refl; frame = refl; callers = refl }
+  entry_is : (above : List Activation) (m : Machine)
+      → AtEntry a s vs above (record m { xs = cells vs; frame = None; callers = above; code = f.code })
+  entry_is above m = record {
+    function = f;
+    found = function_is;
+    arity = arity_is;
+    code = refl;
+    xs = refl;
+    frame = refl;
+    callers = refl;
+  }
 
-  module _ (d : ℕ) (here : Here) (all : RealizesAll (target a own) d here.enter) (above : List Activation) (rest : List Insn) (m : Machine) (rs : List Reply) (log : List Steps.Event) (st : State) (le : st.left ≤ d)
+  module _ (d : ℕ) (here : Here) (all : RealizesAll (target a own) d here.enter) (above : List Activation)
+      (rest : List Insn) (m : Machine) (rs : List Reply) (log : List Steps.Event) (st : State) (le : st.left ≤ d)
       (w : Matches (target a own) st m rs log) where
     only_step : (let u = ready (call_only (length vs) l ∷ rest) (cells vs) None above m in
-        step a u ≡ notes (Steps.entered (record { site = s; tail = true })) (goes (record u { xs = cells vs; frame = None; code = f.code; room = 0 })))
+        step a u ≡ notes (Steps.entered (record { site = s; tail = true }))
+        (goes (record u { xs = cells vs; frame = None; code = f.code; room = 0 })))
     unfolding step
     only_step = call_only_enters a l s f vs found arity (record (ready rest [] None above m) { xs = [] })
 
-    pub call_only_realizes : Realizes (target a own) above (ready (call_only (length vs) l ∷ rest) (cells vs) None above m) rs log (calling here s true vs st)
+    pub call_only_realizes : Realizes (target a own) above
+        (ready (call_only (length vs) l ∷ rest) (cells vs) None above m) rs log (calling here s true vs st)
     call_only_realizes =
-        call_enters (target a own) d s true true (λ e. e) here vs above _ _ rs log st all le only_step (entry_is above (record (ready f.code [] None above m) { room = 0 }))
+        call_enters (target a own) d s true true (λ e. e) here vs above _ _ rs log st all le only_step
+        (entry_is above (record (ready f.code [] None above m) { room = 0 }))
         (record { replies = w.replies; noted = w.noted; mailbox = holds_ready own st m _ _ _ _ w.mailbox })
-        (λ u h. record { own = h.own; mailbox = h.mailbox; next_serial = h.next_serial; save = h.save; window = h.window; landing = h.landing })
-        (λ k n h. record { own = h.own; mailbox = h.mailbox; next_serial = h.next_serial; save = h.save; window = h.window; landing = h.landing })
+        (λ u h. record {
+          own = h.own;
+          mailbox = h.mailbox;
+          next_serial = h.next_serial;
+          save = h.save;
+          window = h.window;
+          landing = h.landing;
+        })
+        (λ k n h. record {
+          own = h.own;
+          mailbox = h.mailbox;
+          next_serial = h.next_serial;
+          save = h.save;
+          window = h.window;
+          landing = h.landing;
+        })
 
     -- with a frame: its activation waits
     module _ (ys : List Cell) where
@@ -55,26 +92,51 @@ module _ (a : AsmModule) (own : Term) (l s : ℕ) (f : AsmFun) (vs : Values) (fo
       waiting = record { frame = Some ys; back = rest }
 
       call_step : (let u = ready (call (length vs) l ∷ rest) (cells vs) (Some ys) above m in
-          step a u ≡ notes (Steps.entered (record { site = s; tail = false })) (goes (record u { xs = cells vs; frame = None; callers = waiting ∷ above; code = f.code; room = 0 })))
+          step a u ≡ notes (Steps.entered (record { site = s; tail = false }))
+          (goes (record u { xs = cells vs; frame = None; callers = waiting ∷ above; code = f.code; room = 0 })))
       unfolding step
       call_step = Entering.call_enters a l s f vs found arity ys (record (ready rest [] None above m) { xs = [] })
 
-      called : Realizes (target a own) (waiting ∷ above) (ready (call (length vs) l ∷ rest) (cells vs) (Some ys) above m) rs log (calling here s false vs st)
+      called : Realizes (target a own) (waiting ∷ above)
+          (ready (call (length vs) l ∷ rest) (cells vs) (Some ys) above m) rs log (calling here s false vs st)
       called =
-          call_enters (target a own) d s false false (λ e. e) here vs (waiting ∷ above) _ _ rs log st all le call_step (entry_is (waiting ∷ above) (record (ready f.code [] None above m) { room = 0 }))
+          call_enters (target a own) d s false false (λ e. e) here vs (waiting ∷ above) _ _ rs log st all le call_step
+          (entry_is (waiting ∷ above) (record (ready f.code [] None above m) { room = 0 }))
           (record { replies = w.replies; noted = w.noted; mailbox = holds_ready own st m _ _ _ _ w.mailbox })
-          (λ u h. record { own = h.own; mailbox = h.mailbox; next_serial = h.next_serial; save = h.save; window = h.window; landing = h.landing })
-          (λ k n h. record { own = h.own; mailbox = h.mailbox; next_serial = h.next_serial; save = h.save; window = h.window; landing = h.landing })
+          (λ u h. record {
+            own = h.own;
+            mailbox = h.mailbox;
+            next_serial = h.next_serial;
+            save = h.save;
+            window = h.window;
+            landing = h.landing;
+          })
+          (λ k n h. record {
+            own = h.own;
+            mailbox = h.mailbox;
+            next_serial = h.next_serial;
+            save = h.save;
+            window = h.window;
+            landing = h.landing;
+          })
 
       abbrev resumed : Machine → Term → Machine
       resumed u t = record u { xs = term t ∷ []; room = 0; frame = Some ys; callers = above; code = rest }
 
-      -- what comes after the call goes on with its value alone in x0; a raise goes further up, where the frame has no tag
+      -- what comes after the call goes on with its value alone in x0; a raise goes further up, where the frame has no
+      -- tag
       pub call_realizes : (after : Term → M Term) → tag_of (Some ys) ≡ None →
-          ((t : Term) (s' : State) (u : Machine) (rs1 : List Reply) (log1 : List Steps.Event) → Matches (target a own) s' u rs1 log1 → Realizes (target a own) above (resumed u t) rs1 log1 (after t s')) →
-          Realizes (target a own) above (ready (call (length vs) l ∷ rest) (cells vs) (Some ys) above m) rs log (going_on (calling here s false vs st) after)
+          ((t : Term) (s' : State) (u : Machine) (rs1 : List Reply) (log1 : List Steps.Event)
+          → Matches (target a own) s' u rs1 log1 → Realizes (target a own) above (resumed u t) rs1 log1 (after t s'))
+          →
+          Realizes (target a own) above (ready (call (length vs) l ∷ rest) (cells vs) (Some ys) above m) rs log
+          (going_on (calling here s false vs st) after)
       call_realizes after none next =
-          realizes_then (target a own) above (waiting ∷ above) _ rs log (calling here s false vs st) after resumed called
+          realizes_then (target a own) above (waiting ∷ above) _ rs log
+          (calling here s false vs st) after resumed called
           (λ t u. refl)
-          (λ c t u. ap (λ o. elim o [ Some z ↦ lands a z.0 z.1 c t (record u { frame = Some ys; callers = above }) | None ↦ unwinds a above c t u ]) none)
+          (λ c t u. ap (λ o. elim o [
+            | Some z ↦ lands a z.0 z.1 c t (record u { frame = Some ys; callers = above })
+            | None ↦ unwinds a above c t u
+          ]) none)
           next

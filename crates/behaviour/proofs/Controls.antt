@@ -53,7 +53,17 @@ asm n = record {
   funs = function n ∷ [];
 }
 
-meant : (x : Script) (n : ℕ) → evaluated core one [] x n ≡ record { happenings = []; entries = []; looks = []; marks = []; examined = []; subs = 0; end = gives (T.int (pos 1)) }
+meant : (x : Script) (n : ℕ)
+    → evaluated core one [] x n
+    ≡ record {
+      happenings = [];
+      entries = [];
+      looks = [];
+      marks = [];
+      examined = [];
+      subs = 0;
+      end = gives (T.int (pos 1));
+    }
 unfolding evaluated
 meant x n = refl
 
@@ -62,7 +72,15 @@ module _ (x : Script) where
   run k = asm_run (asm 1) one [] x k
 
   result : Result
-  result = record { happenings = []; entries = []; looks = []; marks = []; examined = []; subs = 0; end = gives (T.int (pos 1)) }
+  result = record {
+    happenings = [];
+    entries = [];
+    looks = [];
+    marks = [];
+    examined = [];
+    subs = 0;
+    end = gives (T.int (pos 1));
+  }
 
   within : (k : ℕ) → StaysWithin (run k) result
   unfolding run asm_run result
@@ -126,7 +144,8 @@ one_realized f vs x c =
     let e = called f vs x c in
     subst (λ g. Realized core (asm 1) g vs x) e.0 (subst (λ us. Realized core (asm 1) one us x) e.1 realized)
   where
-    same : (n : ℕ) → entered_deep (codes "one") x.own (bodies (T.int (pos 1))) (suc n) (known_export core one) [] (E.start x n)
+    same : (n : ℕ) → entered_deep (codes "one") x.own (bodies (T.int (pos 1))) (suc n)
+        (known_export core one) [] (E.start x n)
         ≡ deep (known core x.own) (suc n) (known_export core one) [] (E.start x n)
     same n = refl
 
@@ -157,7 +176,11 @@ one_cheap f vs x c =
     (subst (λ us. FollowsCosts (asm_run (asm 1) one us x) (evaluated core one us x)) e.1 costs)
   where
     costs : FollowsCosts (asm_run (asm 1) one [] x) (evaluated core one [] x)
-    costs n = (2, record { happenings = refl; sites = refl; end = refl; examined = tt }, record { examined = refl; passed = tt; subs = omega arith })
+    costs n = (
+      2,
+      record { happenings = refl; sites = refl; end = refl; examined = tt },
+      record { examined = refl; passed = tt; subs = omega arith },
+    )
 
 -- Code with another literal doesn't do the same.
 
@@ -197,7 +220,12 @@ with_code is = record {
   exports = one ∷ [];
   attributes = [];
   funs = record { key = one; info = 1; entry = 2; code = is }
-      ∷ record { key = record { name = codes "two"; arity = 0 }; info = 3; entry = 4; code = move (Source.integer (pos 1)) (Reg.x_reg 0) ∷ return ∷ [] } ∷ [];
+      ∷ record {
+        key = record { name = codes "two"; arity = 0 };
+        info = 3;
+        entry = 4;
+        code = move (Source.integer (pos 1)) (Reg.x_reg 0) ∷ return ∷ [];
+      } ∷ [];
 }
 
 looping : (k : ℕ) → asm_run (with_code (jump 2 ∷ [])) one [] script k ≡ ran [] unfinished
@@ -214,14 +242,17 @@ looping_not_same s =
 
 pub calling_not_same : SameBehaviour core (with_code (call_only 0 4 ∷ [])) → ⊥
 unfolding evaluated asm_run script
-calling_not_same s = absurd (omega (arith, ap length ((s.follows one [] script is_called).machine_run_is_matched 1).sites))
+calling_not_same s = absurd
+    (omega (arith, ap length ((s.follows one [] script is_called).machine_run_is_matched 1).sites))
 
 pub reading_not_same : SameBehaviour core (with_code (move (Source.reg (Reg.x_reg 3)) (Reg.x_reg 0) ∷ return ∷ [])) → ⊥
 unfolding asm_run script
 reading_not_same s = (s.follows one [] script is_called).never_bad 1 refl
 
 -- the same with the other function beside it
-pub beside_same : (f : FunKey) (vs : List Term) (x : Script) → Called core f vs x → (k : ℕ) → asm_run (with_code (move (Source.integer (pos 1)) (Reg.x_reg 0) ∷ return ∷ [])) one [] x k ≡ asm_run (asm 1) one [] x k
+pub beside_same : (f : FunKey) (vs : List Term) (x : Script) → Called core f vs x → (k : ℕ)
+    → asm_run (with_code (move (Source.integer (pos 1)) (Reg.x_reg 0) ∷ return ∷ [])) one [] x k
+    ≡ asm_run (asm 1) one [] x k
 unfolding asm_run
 beside_same f vs x c zero = refl
 beside_same f vs x c (suc zero) = refl

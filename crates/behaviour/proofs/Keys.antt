@@ -17,7 +17,8 @@ pub same_name_is : (x y : Name) → same_name x y ≡ true → x ≡ y
 same_name_is [] [] e = refl
 same_name_is [] (b ∷ y) e = absurd cc
 same_name_is (a ∷ x) [] e = absurd cc
-same_name_is (a ∷ x) (b ∷ y) e = let w = and_true (eqb a b) (same_name x y) e in ap₂ (λ c z. c ∷ z) (eqb-true a b w.0) (same_name_is x y w.1)
+same_name_is (a ∷ x) (b ∷ y) e =
+    let w = and_true (eqb a b) (same_name x y) e in ap₂ (λ c z. c ∷ z) (eqb-true a b w.0) (same_name_is x y w.1)
 
 pub same_name_itself : (x : Name) → same_name x x ≡ true
 same_name_itself [] = refl
@@ -26,7 +27,8 @@ same_name_itself (a ∷ x) = ap (λ b. b && same_name x x) (eq-eqb a a refl) ∙
 pub same_key_is : (f g : FunKey) → same_key f g ≡ true → f ≡ g
 same_key_is f g e =
     let w = and_true (same_name f.name g.name) (eqb f.arity g.arity) e in
-    ap₂ (λ n k. let h : FunKey = record { name = n; arity = k } in h) (same_name_is f.name g.name w.0) (eqb-true f.arity g.arity w.1)
+    ap₂ (λ n k. let h : FunKey = record { name = n; arity = k } in h) (same_name_is f.name g.name w.0)
+    (eqb-true f.arity g.arity w.1)
 
 pub same_key_itself : (f : FunKey) → same_key f f ≡ true
 same_key_itself f = ap (λ b. b && eqb f.arity f.arity) (same_name_itself f.name) ∙ eq-eqb f.arity f.arity refl

@@ -40,20 +40,33 @@ module _ (m : Module) (a : AsmModule) (f : FunKey) (vs : Values) (x : Script) (r
   call_follows =
       subst (λ z. FollowsResults z (evaluated m f vs x)) runs_asm
       (subst (λ z. FollowsResults runs z) means_evaluated
-      (follows_said x.choices runs _ (kept_follows (target a x.own) m.name x.own r.bodies r.realized r.keep [] (λ u s. refl) (λ c u s. refl)
-      (known_export m f) vs (start x vs r.function.code) x.replies (start_at_entry a (known_export m f) r.function x vs r.found r.arity) (E.start x) (λ k. refl)
-      (λ k. record { replies = refl; noted = record { happened = refl; entered = refl; tails = tt; looked = tt }; mailbox = start_holds k x vs r.function.code }))))
+      (follows_said x.choices runs _
+      (kept_follows (target a x.own) m.name x.own r.bodies r.realized r.keep [] (λ u s. refl) (λ c u s. refl)
+      (known_export m f) vs (start x vs r.function.code) x.replies
+      (start_at_entry a (known_export m f) r.function x vs r.found r.arity) (E.start x) (λ k. refl)
+      (λ k. record {
+        replies = refl;
+        noted = record { happened = refl; entered = refl; tails = tt; looked = tt };
+        mailbox = start_holds k x vs r.function.code;
+      }))))
 
   pub call_tails : FollowsTails (asm_run a f vs x) (evaluated m f vs x)
   unfolding means runs
   call_tails =
       subst (λ z. FollowsTails z (evaluated m f vs x)) runs_asm
       (subst (λ z. FollowsTails runs z) means_evaluated
-      (tails_said x.choices runs _ (kept_one_way (target a x.own) m.name x.own r.bodies r.realized r.keep [] (λ u s. refl) (λ c u s. refl)
-      (known_export m f) vs (start x vs r.function.code) x.replies (start_at_entry a (known_export m f) r.function x vs r.found r.arity) (E.start x) (λ k. refl)
-      (λ k. record { replies = refl; noted = record { happened = refl; entered = refl; tails = tt; looked = tt }; mailbox = start_holds k x vs r.function.code }))))
+      (tails_said x.choices runs _
+      (kept_one_way (target a x.own) m.name x.own r.bodies r.realized r.keep [] (λ u s. refl) (λ c u s. refl)
+      (known_export m f) vs (start x vs r.function.code) x.replies
+      (start_at_entry a (known_export m f) r.function x vs r.found r.arity) (E.start x) (λ k. refl)
+      (λ k. record {
+        replies = refl;
+        noted = record { happened = refl; entered = refl; tails = tt; looked = tt };
+        mailbox = start_holds k x vs r.function.code;
+      }))))
 
-module _ (m : Module) (a : AsmModule) (each : (f : FunKey) (vs : Values) (x : Script) → Called m f vs x → Realized m a f vs x) where
+module _ (m : Module) (a : AsmModule)
+    (each : (f : FunKey) (vs : Values) (x : Script) → Called m f vs x → Realized m a f vs x) where
   pub module_same : SameInterface m a → SameBehaviour m a
   module_same i = record { interface = i; follows = λ f vs x c. call_follows m a f vs x (each f vs x c) }
 

@@ -13,7 +13,8 @@ use Rattle.core_meaning.specs.CoreRun.{Known, apart_of, run_site, deep, known, k
 use Rattle.step_machine.specs.Steps.{Ran, run}
 use Rattle.beam_table.specs.InstructionStep.{step}
 use Rattle.beam_table.specs.MachineRun.{start, code_of, asm_run}
-use Rattle.beam_table.specs.ValidModule.{every, is_key}
+use Rattle.erl_base.specs.Names.{is_key}
+use Rattle.beam_table.specs.ValidModule.{every}
 use Rattle.behaviour.specs.Called.{Called, export_keys}
 use Rattle.behaviour.specs.Matched.{FollowsTails, FollowsCosts}
 use Rattle.behaviour.specs.SameBehaviour.{FollowsResults}
@@ -30,7 +31,8 @@ every_at p (y ∷ ys) x e (zero, l, q) = subst (λ z. p z ≡ true) q (and_true 
 every_at p (y ∷ ys) x e (suc k, l, q) = every_at p ys x (and_true (p y) (every p ys) e).1 (k, omega (arith, l), q)
 
 -- entering a function does what its site does
-deep_gives : (m : Known) (d n : ℕ) (vs : Values) (t : Term) → ((here : Invocation) → run_site here (slice_get m.sites n) vs ≡ give t) → deep m (suc d) n vs ≡ give t
+deep_gives : (m : Known) (d n : ℕ) (vs : Values) (t : Term)
+    → ((here : Invocation) → run_site here (slice_get m.sites n) vs ≡ give t) → deep m (suc d) n vs ≡ give t
 unfolding deep
 deep_gives m d n vs t h = h (record {
   name = m.name;
@@ -41,7 +43,8 @@ deep_gives m d n vs t h = h (record {
   enter = deep m d;
 })
 
-module _ (m : Module) (hs : List PlainFun) (w : IsPlainModule m hs) (f : FunKey) (vs : List Term) (x : Script) (c : Called m f vs x) where
+module _ (m : Module) (hs : List PlainFun) (w : IsPlainModule m hs) (f : FunKey) (vs : List Term) (x : Script)
+    (c : Called m f vs x) where
   plain : IsPlain m.defs hs
   plain = plain_each m.defs hs w.plain
 
@@ -59,13 +62,15 @@ module _ (m : Module) (hs : List PlainFun) (w : IsPlainModule m hs) (f : FunKey)
   site_gives : (here : Invocation) → run_site here (slice_get (module_sites m) found.0) vs ≡ give value.0
   site_gives here =
       let g = module_scope m.defs 0 [] in
-      found_site m.defs hs f found.0 found.1 g (def_count m.defs) (inner_sites m.defs g (def_count m.defs)) vs value.0 plain found.2 value.1 here
+      found_site m.defs hs f found.0 found.1 g (def_count m.defs)
+      (inner_sites m.defs g (def_count m.defs)) vs value.0 plain found.2 value.1 here
 
   means : (n : ℕ) → evaluated m f vs x n ≡ plainly value.0
   unfolding evaluated
   means n =
       ap (λ k. ended x.choices (deep (known m x.own) (suc n) k vs (E.start x n))) number_is
-      ∙ ap (λ r. let z : State × Outcome Term = r (E.start x n) in ended x.choices z) (deep_gives (known m x.own) n found.0 vs value.0 site_gives)
+      ∙ ap (λ r. let z : State × Outcome Term = r (E.start x n) in ended x.choices z)
+      (deep_gives (known m x.own) n found.0 vs value.0 site_gives)
 
   code_is : code_of (plain_asm 0 hs) f ≡ plain_code found.1.body
   code_is = code_found hs 0 f found.0 found.1 found.2
@@ -75,12 +80,14 @@ module _ (m : Module) (hs : List PlainFun) (w : IsPlainModule m hs) (f : FunKey)
 
   run_gives : Gives runs value.0
   unfolding runs asm_run
-  run_gives = subst (λ is. Gives (λ k. run (step (plain_assembly m hs)) k (start x vs is) x.replies []) value.0) (sym code_is)
+  run_gives = subst (λ is. Gives (λ k. run (step (plain_assembly m hs)) k (start x vs is) x.replies []) value.0)
+      (sym code_is)
       (code_gives (plain_assembly m hs) x found.1.body vs value.0 value.1)
 
   pub plain_follows : FollowsResults (asm_run (plain_assembly m hs) f vs x) (evaluated m f vs x)
   unfolding runs
-  plain_follows = simple_follows runs (evaluated m f vs x) value.0 run_gives.done run_gives.is_done run_gives.simple means
+  plain_follows = simple_follows runs
+      (evaluated m f vs x) value.0 run_gives.done run_gives.is_done run_gives.simple means
 
   pub plain_tails : FollowsTails (asm_run (plain_assembly m hs) f vs x) (evaluated m f vs x)
   unfolding runs

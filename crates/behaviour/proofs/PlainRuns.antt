@@ -88,7 +88,8 @@ module _ (a : AsmModule) (x : Script) where
   unfolding step begun moved
   move_steps j t v vs e = ap (λ c. needs (is_movable c) (write (begun j v vs) (x_reg 0) c goes)) (cell_at vs j t e)
 
-  later_gives : (j : ℕ) (t v : Term) (vs : List Term) → slice_get vs j ≡ Some t → Gives (runs (parameter (suc j)) (v ∷ vs)) t
+  later_gives : (j : ℕ) (t v : Term) (vs : List Term) → slice_get vs j ≡ Some t
+      → Gives (runs (parameter (suc j)) (v ∷ vs)) t
   unfolding runs run step moved
   later_gives j t v vs e = record { done = 2; is_done = at 1 ∙ end 0; simple = go }
     where
@@ -109,12 +110,14 @@ module _ (a : AsmModule) (x : Script) where
       go (suc zero) = inl (at 0 ∙ begin)
       go (suc (suc k)) = inr (at (suc k) ∙ end k)
 
-  pub code_gives : (b : PlainBody) (vs : List Term) (t : Term) → given b vs ≡ Some t → Gives (λ k. run (step a) k (start x vs (plain_code b)) x.replies []) t
+  pub code_gives : (b : PlainBody) (vs : List Term) (t : Term) → given b vs ≡ Some t
+      → Gives (λ k. run (step a) k (start x vs (plain_code b)) x.replies []) t
   unfolding runs
   code_gives (number z) vs t e = subst (λ u. Gives (runs (number z) vs) u) (some_is (T.int z) t e) (number_gives z vs)
   code_gives (atom c) vs t e = subst (λ u. Gives (runs (atom c) vs) u) (some_is (T.atom c) t e) (atom_gives c vs)
   code_gives (parameter zero) [] t e = absurd cc
-  code_gives (parameter zero) (v ∷ vs) t e = subst (λ u. Gives (runs (parameter 0) (v ∷ vs)) u) (some_is v t e) (first_gives v vs)
+  code_gives (parameter zero) (v ∷ vs) t e =
+      subst (λ u. Gives (runs (parameter 0) (v ∷ vs)) u) (some_is v t e) (first_gives v vs)
   code_gives (parameter (suc j)) [] t e = absurd cc
   code_gives (parameter (suc j)) (v ∷ vs) t e = later_gives j t v vs e
 
@@ -124,10 +127,12 @@ Found [] f i h = ⊥
 Found (g ∷ gs) f zero h = (g ≡ h) × (g.key ≡ f)
 Found (g ∷ gs) f (suc i) h = (g.key ≢ f) × Found gs f i h
 
-pub code_found : (hs : List PlainFun) (k : ℕ) (f : FunKey) (i : ℕ) (h : PlainFun) → Found hs f i h → code_of (plain_asm k hs) f ≡ plain_code h.body
+pub code_found : (hs : List PlainFun) (k : ℕ) (f : FunKey) (i : ℕ) (h : PlainFun) → Found hs f i h
+    → code_of (plain_asm k hs) f ≡ plain_code h.body
 code_found [] k f i h w = absurd w
 code_found (g ∷ gs) k f zero h w =
-    ap (λ b. if b then plain_code g.body else code_of (plain_asm (suc k) gs) f) (subst (λ l. same_key f l ≡ true) (sym w.1) (same_key_itself f))
+    ap (λ b. if b then plain_code g.body else code_of (plain_asm (suc k) gs) f)
+    (subst (λ l. same_key f l ≡ true) (sym w.1) (same_key_itself f))
     ∙ ap (λ z. plain_code z.body) w.0
 code_found (g ∷ gs) k f (suc i) h w =
     ap (λ b. if b then plain_code g.body else code_of (plain_asm (suc k) gs) f) (other_key f g.key (λ e. w.0 (sym e)))

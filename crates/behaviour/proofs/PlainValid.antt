@@ -1,16 +1,16 @@
 -- The assembly of a plain module is valid.
 use Rattle.std.proofs.Common.{◌≡◌, ◌<◌, ◌+◌, ◌*◌, ◌^◌, not, ◌&&◌, ◌||◌, ℕ, zero, suc, List, [], ◌∷◌, ◌++◌, map, length, if◌then◌else◌, leb, Bool, true, false, Option, None, Some, refl, sym, ap, ap₂, ◌∙◌, subst, arith}
 use Rattle.std.proofs.lemmas.Bool.{ne_eqb, lt-ltb, le-leb, leb-true}
-use Rattle.erl_base.specs.Names.{same_key}
+use Rattle.erl_base.specs.Names.{same_key, is_key, keys_distinct}
 use Rattle.erl_base.specs.declared.ids.FunKey.{FunKey}
 use Rattle.erl_term.specs.Term as T
 use Rattle.core_form.specs.declared.tree.Binder.{Binder}
 use Rattle.core_form.specs.Core.{Expr, literal, var, Defs, no_def, and_def, def}
 use Rattle.beam_table.specs.OperandBounds.{label_ok}
 use Rattle.erl_base.specs.Lists.{among}
-use Rattle.beam_table.specs.ValidModule.{every, distinct, labels_in, all_labels, entries_of, fun_ok, is_key, keys_distinct}
+use Rattle.beam_table.specs.ValidModule.{every, distinct, labels_in, all_labels, entries_of, fun_ok}
 use Rattle.behaviour.specs.Called.{without, each_once, export_keys}
-use Rattle.behaviour.specs.PlainModules.{PlainBody, number, atom, parameter, PlainFun, plain_code, plain_asm, place_of, as_parameter, plain_body, plain_fun, body_fits, fun_fits, PlainAssemblyIsValid}
+use Rattle.behaviour.specs.PlainModules.{PlainBody, number, atom, parameter, PlainFun, plain_code, plain_asm, parameter_place, as_parameter, plain_body, plain_fun, body_fits, fun_fits, PlainAssemblyIsValid}
 use Rattle.behaviour.proofs.Keys.{and_true, or_false, some_is}
 use Rattle.behaviour.proofs.PlainMeaning.{IsPlain, plain_each, fun_is, place_below}
 
@@ -58,7 +58,8 @@ numbered_differ : (k : ℕ) (hs : List PlainFun) → distinct (numbered k hs) �
 unfolding numbered
 numbered_differ k [] = refl
 numbered_differ k (h ∷ hs) =
-    both _ _ (ap not (neither _ _ (ne_eqb (2 * k + 1) (2 * k + 2) (λ e. omega (arith, e))) (not_among (2 * k + 1) (suc k) hs (omega arith))))
+    both _ _ (ap not (neither _ _ (ne_eqb (2 * k + 1) (2 * k + 2) (λ e. omega (arith, e)))
+    (not_among (2 * k + 1) (suc k) hs (omega arith))))
     (both _ _ (ap not (not_among (2 * k + 2) (suc k) hs (omega arith))) (numbered_differ (suc k) hs))
 
 -- Code.
@@ -69,22 +70,25 @@ IsBelow (number z) n = Unit {0}
 IsBelow (atom a) n = Unit {0}
 IsBelow (parameter j) n = j < n
 
-fun_valid : (es : List ℕ) (k : ℕ) (f : FunKey) (b : PlainBody) → leb f.arity 255 ≡ true → body_fits b ≡ true → IsBelow b f.arity →
+fun_valid : (es : List ℕ) (k : ℕ) (f : FunKey) (b : PlainBody) → leb f.arity 255 ≡ true → body_fits b ≡ true
+    → IsBelow b f.arity →
     fun_ok es (record { key = f; info = 2 * k + 1; entry = 2 * k + 2; code = plain_code b }) ≡ true
 unfolding fun_ok
 fun_valid es k f (number z) l e w = both _ _ l (both _ _ (both _ _ (both _ _ (both _ _ e refl) refl) refl) refl)
 fun_valid es k f (atom a) l e w = both _ _ l refl
 fun_valid es k f (parameter zero) l e w = both _ _ l refl
 fun_valid es k f (parameter (suc j)) l e w =
-    both _ _ l (both _ _ (both _ _ (both _ _ (both _ _ (le-leb (suc j) 1022 (omega (arith, w, leb-true f.arity 255 l))) refl) refl) refl) refl)
+    both _ _ l (both _ _ (both _ _
+    (both _ _ (both _ _ (le-leb (suc j) 1022 (omega (arith, w, leb-true f.arity 255 l))) refl) refl) refl) refl)
 
-body_below : (params : List Binder) (e : Expr) (b : PlainBody) → plain_body params e ≡ Some b → IsBelow b (length params)
+body_below : (params : List Binder) (e : Expr) (b : PlainBody) → plain_body params e ≡ Some b
+    → IsBelow b (length params)
 body_below bs (literal p (T.int z)) b a = subst (λ c. IsBelow c (length bs)) (some_is (number z) b a) tt
 body_below bs (literal p (T.atom c)) b a = subst (λ d. IsBelow d (length bs)) (some_is (atom c) b a) tt
 body_below bs (literal p _) b a = absurd cc
-body_below bs (var p x) b a = go (place_of x bs) refl a
+body_below bs (var p x) b a = go (parameter_place x bs) refl a
   where
-    go : (o : Option ℕ) → place_of x bs ≡ o → as_parameter o ≡ Some b → IsBelow b (length bs)
+    go : (o : Option ℕ) → parameter_place x bs ≡ o → as_parameter o ≡ Some b → IsBelow b (length bs)
     go None e z = absurd cc
     go (Some j) e z = subst (λ c. IsBelow c (length bs)) (some_is (parameter j) b z) (place_below x bs j e)
 body_below bs _ b a = absurd cc
@@ -92,9 +96,11 @@ body_below bs _ b a = absurd cc
 below : (f : FunKey) (e : Expr) (h : PlainFun) → plain_fun f e ≡ Some h → IsBelow h.body h.key.arity
 below f e h q =
     let w = fun_is f e h q in
-    subst (λ n. IsBelow h.body n) (sym w.arity ∙ ap (λ z. z.arity) (sym w.key)) (body_below w.params w.body h.body w.plain)
+    subst (λ n. IsBelow h.body n) (sym w.arity ∙ ap (λ z. z.arity) (sym w.key))
+    (body_below w.params w.body h.body w.plain)
 
-funs_valid : (es : List ℕ) (ds : Defs) (hs : List PlainFun) (k : ℕ) → IsPlain ds hs → every fun_fits hs ≡ true → every (fun_ok es) (plain_asm k hs) ≡ true
+funs_valid : (es : List ℕ) (ds : Defs) (hs : List PlainFun) (k : ℕ) → IsPlain ds hs → every fun_fits hs ≡ true
+    → every (fun_ok es) (plain_asm k hs) ≡ true
 funs_valid es no_def [] k a e = refl
 funs_valid es no_def (h ∷ hs) k a e = absurd a
 funs_valid es (and_def d ds) [] k a e = absurd a
@@ -125,7 +131,8 @@ without_gone : (f : FunKey) (gs : List FunKey) → is_key f (without f gs) ≡ f
 without_gone f [] = refl
 without_gone f (g ∷ gs) = go (same_key f g) refl (without_gone f gs)
   where
-    go : (c : Bool) → same_key f g ≡ c → is_key f (without f gs) ≡ false → is_key f (if c then without f gs else g ∷ without f gs) ≡ false
+    go : (c : Bool) → same_key f g ≡ c → is_key f (without f gs) ≡ false
+        → is_key f (if c then without f gs else g ∷ without f gs) ≡ false
     go true s h = h
     go false s h = neither _ _ s h
 
@@ -135,15 +142,19 @@ not_false false e = refl
 
 without_distinct : (f : FunKey) (gs : List FunKey) → keys_distinct gs ≡ true → keys_distinct (without f gs) ≡ true
 without_distinct f [] e = refl
-without_distinct f (g ∷ gs) e = go (same_key f g) (without_distinct f gs (and_true (not (is_key g gs)) (keys_distinct gs) e).1)
+without_distinct f (g ∷ gs) e =
+    go (same_key f g) (without_distinct f gs (and_true (not (is_key g gs)) (keys_distinct gs) e).1)
   where
-    go : (c : Bool) → keys_distinct (without f gs) ≡ true → keys_distinct (if c then without f gs else g ∷ without f gs) ≡ true
+    go : (c : Bool) → keys_distinct (without f gs) ≡ true
+        → keys_distinct (if c then without f gs else g ∷ without f gs) ≡ true
     go true h = h
-    go false h = both _ _ (ap not (without_other g f gs (not_false _ (and_true (not (is_key g gs)) (keys_distinct gs) e).0))) h
+    go false h = both _ _ (ap not (without_other g f gs
+        (not_false _ (and_true (not (is_key g gs)) (keys_distinct gs) e).0))) h
 
 once_distinct : (fs : List FunKey) → keys_distinct (each_once fs) ≡ true
 once_distinct [] = refl
-once_distinct (f ∷ fs) = both _ _ (ap not (without_gone f (each_once fs))) (without_distinct f (each_once fs) (once_distinct fs))
+once_distinct (f ∷ fs) =
+    both _ _ (ap not (without_gone f (each_once fs))) (without_distinct f (each_once fs) (once_distinct fs))
 
 once_every : (p : FunKey → Bool) (fs : List FunKey) → every p fs ≡ true → every p (each_once fs) ≡ true
 once_every p [] e = refl

@@ -21,11 +21,14 @@ module _ (run : ℕ → Ran) (eval : ℕ → Result) (t : Term) (done : ℕ) (is
   reaches_plainly = record { happenings = refl; sites = refl; end = refl; examined = tt }
 
   reaches : (n : ℕ) → ReachesResult (run done) (eval n)
-  reaches n = subst (λ r. ReachesResult r (eval n)) (sym is_done) (subst (λ e. ReachesResult (ran [] (over (gives t))) e) (sym (means n)) reaches_plainly)
+  reaches n = subst (λ r. ReachesResult r (eval n)) (sym is_done)
+      (subst (λ e. ReachesResult (ran [] (over (gives t))) e) (sym (means n)) reaches_plainly)
 
   within_plainly : (r : Ran) → IsSimple r t → StaysWithin r (plainly t)
-  within_plainly r (inl e) = subst (λ z. StaysWithin z (plainly t)) (sym e) (record { happenings = ([], refl); sites = refl; ends = λ o q. absurd cc })
-  within_plainly r (inr e) = subst (λ z. StaysWithin z (plainly t)) (sym e) (record { happenings = ([], refl); sites = refl; ends = λ o q. (refl, cc) })
+  within_plainly r (inl e) = subst (λ z. StaysWithin z (plainly t)) (sym e)
+      (record { happenings = ([], refl); sites = refl; ends = λ o q. absurd cc })
+  within_plainly r (inr e) = subst (λ z. StaysWithin z (plainly t)) (sym e)
+      (record { happenings = ([], refl); sites = refl; ends = λ o q. (refl, cc) })
 
   not_bad : (r : Ran) → IsSimple r t → r.end ≢ is_bad
   not_bad r (inl e) q = let d : unfinished ≡ is_bad = sym (ap (λ z. z.end) e) ∙ q in cc
@@ -34,12 +37,24 @@ module _ (run : ℕ → Ran) (eval : ℕ → Result) (t : Term) (done : ℕ) (is
   pub simple_follows : FollowsResults run eval
   simple_follows = record {
     core_run_is_matched = λ n. (done, reaches n);
-    machine_run_is_matched = λ k. subst (λ e. StaysWithin (run k) e) (sym (means _)) (within_plainly (run k) (simple k));
+    machine_run_is_matched =
+        λ k. subst (λ e. StaysWithin (run k) e) (sym (means _)) (within_plainly (run k) (simple k));
     never_bad = λ k. not_bad (run k) (simple k);
   }
 
   pub simple_tails : FollowsTails run eval
-  simple_tails n = (done, reaches n, subst (λ r. KeepsTailEntries r (eval n)) (sym is_done) (subst (λ e. KeepsTailEntries (ran [] (over (gives t))) e) (sym (means n)) tt))
+  simple_tails n = (
+    done,
+    reaches n,
+    subst (λ r. KeepsTailEntries r (eval n)) (sym is_done)
+        (subst (λ e. KeepsTailEntries (ran [] (over (gives t))) e) (sym (means n)) tt),
+  )
 
   pub simple_costs : FollowsCosts run eval
-  simple_costs n = (done, reaches n, subst (λ r. Costs r (eval n)) (sym is_done) (subst (λ e. Costs (ran [] (over (gives t))) e) (sym (means n)) (record { examined = refl; passed = tt; subs = omega arith })))
+  simple_costs n = (
+    done,
+    reaches n,
+    subst (λ r. Costs r (eval n)) (sym is_done)
+        (subst (λ e. Costs (ran [] (over (gives t))) e) (sym (means n))
+        (record { examined = refl; passed = tt; subs = omega arith })),
+  )

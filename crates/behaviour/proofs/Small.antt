@@ -31,14 +31,17 @@ placed is cs a m = record m { xs = cs; frame = None; callers = a; save = 0; wind
 unfoldable pub bodies : Term → Bodies
 bodies t n here vs = give t
 
-module _ (a : AsmModule) (t : Term) (own : Term) (all : (n : ℕ) (f : AsmFun) → slice_get a.funs n ≡ Some f → f.code ≡ code t) where
+module _ (a : AsmModule) (t : Term) (own : Term)
+    (all : (n : ℕ) (f : AsmFun) → slice_get a.funs n ≡ Some f → f.code ≡ code t) where
   returned : (vs : Values) (above : List Activation) (m : Machine) (rs : List Reply) (log : List Event) →
-      Comes (target a own) (placed (code t) (cells vs) above m) rs log (returns_to above t (placed [] (with_cell 0 (Cell.term t) (cells vs)) above m)) rs log
+      Comes (target a own) (placed (code t) (cells vs) above m) rs log
+      (returns_to above t (placed [] (with_cell 0 (Cell.term t) (cells vs)) above m)) rs log
   unfolding step run
   returned [] above m rs log = record { steps = 1; then_same = λ k. refl }
   returned (v ∷ vs) above m rs log = record { steps = 1; then_same = λ k. refl }
 
-  is_placed : (n : ℕ) (vs : Values) (above : List Activation) (m : Machine) (s : State) → AtEntry a n vs above m → Holds own s m → m ≡ placed (code t) (cells vs) above m
+  is_placed : (n : ℕ) (vs : Values) (above : List Activation) (m : Machine) (s : State) → AtEntry a n vs above m
+      → Holds own s m → m ≡ placed (code t) (cells vs) above m
   is_placed n vs above m s e h = λ i. record m {
     xs = e.xs i;
     frame = e.frame i;
@@ -67,7 +70,8 @@ module _ (a : AsmModule) (t : Term) (own : Term) (all : (n : ℕ) (f : AsmFun) �
         landing = refl;
       };
     };
-    comes = subst (λ z. Comes (target a own) z rs log (returns_to above t (placed [] (with_cell 0 (Cell.term t) (cells vs)) above m)) rs log)
+    comes = subst (λ z. Comes (target a own) z rs log
+        (returns_to above t (placed [] (with_cell 0 (Cell.term t) (cells vs)) above m)) rs log)
         (sym (is_placed n vs above m s e w.mailbox)) (returned vs above m rs log);
   }
 
@@ -77,10 +81,17 @@ unfolding bodies
 keeps t d n here vs enters = give_keeps d t
 
 -- so each call does what the meaning says, both ways
-small_follows : (a : AsmModule) (t : Term) (x : Script) → ((n : ℕ) (f : AsmFun) → slice_get a.funs n ≡ Some f → f.code ≡ code t) →
+small_follows : (a : AsmModule) (t : Term) (x : Script)
+    → ((n : ℕ) (f : AsmFun) → slice_get a.funs n ≡ Some f → f.code ≡ code t) →
     (name : Name) (n : ℕ) (f : AsmFun) (vs : Values) → slice_get a.funs n ≡ Some f → length vs ≡ f.key.arity →
-    Follows (λ k. run (step a) k (start x vs f.code) x.replies []) (λ k. meant (entered_deep name x.own (bodies t) (suc k) n vs (E.start x k)))
+    Follows (λ k. run (step a) k (start x vs f.code) x.replies [])
+    (λ k. meant (entered_deep name x.own (bodies t) (suc k) n vs (E.start x k)))
 small_follows a t x all name n f vs found arity =
-    kept_follows (target a x.own) name x.own (bodies t) (bodies_realized a t x.own all name) (keeps t) [] (λ u m. refl) (λ c u m. refl)
+    kept_follows (target a x.own) name x.own (bodies t) (bodies_realized a t x.own all name) (keeps t) [] (λ u m. refl)
+    (λ c u m. refl)
     n vs (start x vs f.code) x.replies (start_at_entry a n f x vs found arity) (E.start x) (λ k. refl)
-    (λ k. record { replies = refl; noted = record { happened = refl; entered = refl; tails = tt; looked = tt }; mailbox = start_holds k x vs f.code })
+    (λ k. record {
+      replies = refl;
+      noted = record { happened = refl; entered = refl; tails = tt; looked = tt };
+      mailbox = start_holds k x vs f.code;
+    })

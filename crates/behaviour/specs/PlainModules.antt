@@ -1,6 +1,6 @@
 -- Plain modules: each function gives an integer, an atom, or one of its parameters; and their assembly.
 use Rattle.std.specs.Prelude.{◌≡◌, ◌<◌, ◌^◌, ◌&&◌, leb, ℕ, ℤ, zero, suc, ◌+◌, ◌*◌, List, [], ◌∷◌, map, length, eqb, Bool, true, false, Option, Some, None, if◌then◌else◌, IsTrue}
-use Rattle.erl_base.specs.Names.{Name, same_name}
+use Rattle.erl_base.specs.Names.{Name, same_name, is_key, keys_distinct}
 use Rattle.erl_base.specs.declared.ids.FunKey.{FunKey}
 use Rattle.erl_term.specs.Term as T
 use Rattle.core_form.specs.declared.tree.Binder.{Binder}
@@ -8,7 +8,7 @@ use Rattle.core_form.specs.Core.{Module, Expr, literal, var, fun, Defs, no_def, 
 use Rattle.beam_table.specs.Code as C
 use Rattle.beam_table.specs.Code.{Insn, move, return, x_reg, AsmFun, AsmModule}
 use Rattle.erl_term.specs.Ranges.{is_within_128}
-use Rattle.beam_table.specs.ValidModule.{every, is_key, keys_distinct, attribute_ok, Valid}
+use Rattle.beam_table.specs.ValidModule.{every, attribute_ok, Valid}
 use Rattle.behaviour.specs.Called.{export_keys, each_once}
 use Rattle.behaviour.specs.SameBehaviour.{SameBehaviour, TailCalls, CheapCalls}
 
@@ -30,9 +30,9 @@ later_place true None = Some 0
 later_place false None = None
 
 -- the last parameter of this name
-abbrev pub place_of : Name → List Binder → Option ℕ
-place_of x [] = None
-place_of x (b ∷ bs) = later_place (same_name x b.name) (place_of x bs)
+abbrev pub parameter_place : Name → List Binder → Option ℕ
+parameter_place x [] = None
+parameter_place x (b ∷ bs) = later_place (same_name x b.name) (parameter_place x bs)
 
 -- a parameter that is there
 abbrev pub as_parameter : Option ℕ → Option PlainBody
@@ -43,7 +43,7 @@ as_parameter (Some j) = Some (parameter j)
 abbrev pub plain_body : List Binder → Expr → Option PlainBody
 plain_body bs (literal p (T.int z)) = Some (number z)
 plain_body bs (literal p (T.atom a)) = Some (atom a)
-plain_body bs (var p x) = as_parameter (place_of x bs)
+plain_body bs (var p x) = as_parameter (parameter_place x bs)
 plain_body bs e = None
 
 -- a function, if its body is plain
@@ -57,15 +57,15 @@ plain_fun f (fun p bs e) = if eqb f.arity (length bs) then with_key f (plain_bod
 plain_fun f e = None
 
 -- all of them, or none
-abbrev pub and_also : Option PlainFun → Option (List PlainFun) → Option (List PlainFun)
-and_also None o = None
-and_also (Some h) None = None
-and_also (Some h) (Some hs) = Some (h ∷ hs)
+abbrev pub both_plain : Option PlainFun → Option (List PlainFun) → Option (List PlainFun)
+both_plain None o = None
+both_plain (Some h) None = None
+both_plain (Some h) (Some hs) = Some (h ∷ hs)
 
 -- all definitions, if they are plain
 abbrev pub plain_funs : Defs → Option (List PlainFun)
 plain_funs no_def = Some []
-plain_funs (and_def (def p f e) ds) = and_also (plain_fun f e) (plain_funs ds)
+plain_funs (and_def (def p f e) ds) = both_plain (plain_fun f e) (plain_funs ds)
 
 -- a value in x0, and the end
 abbrev pub plain_code : PlainBody → List Insn

@@ -1,5 +1,14 @@
 //! What it is that an assembly module behaves as a Core module, and that functions one by one give it.
-//! The public functions have no code: the contract of each is a law.
+//!
+//! The module with `'f'/1 = fun (X) -> X` behaves as the assembly whose `f/1` returns at once, since its argument is
+//! in `{x,0}` already: whatever term is called, whatever the world replies and with every bound on entries, the same
+//! happens and the run ends the same.
+//!
+//! Sound both ways: each meaning with a bound is reached by some number of steps, and no step goes beyond the
+//! meanings. `functions_give_the_module` asks this of single functions alone.
+//!
+//! The public functions have no code: the contract of each is a law. Of the compiler's passes only that for plain
+//! modules stands here, as the definition `plain_asm`. How many steps a run takes is not compared.
 #![tactic(auto)]
 
 mod laws;

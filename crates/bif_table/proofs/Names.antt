@@ -11,7 +11,8 @@ use Rattle.bif_table.specs.Builtins.{Bif, Add, bif_name, arity_of, row_of_bif, i
 chars_one : (a b : List ℕ) → IsUtf8 a → IsUtf8 b → chars a ≡ chars b → a ≡ b
 chars_one a b u v e = sym (encodes-chars a u) ∙ ap encodes e ∙ encodes-chars b v
 
-pub same_text : (r : Bool) (a b x : List ℕ) → IsUtf8 a → IsUtf8 b → r ≡ bytes_eq a b → chars a ≡ x → IsTrue r ↔ (x ≡ chars b)
+pub same_text : (r : Bool) (a b x : List ℕ) → IsUtf8 a → IsUtf8 b → r ≡ bytes_eq a b → chars a ≡ x
+    → IsTrue r ↔ (x ≡ chars b)
 same_text r a b x u v e f = (
   λ t. sym f ∙ ap chars (search (rules, t, e)),
   λ s. let h : a ≡ b = chars_one a b u v (f ∙ s) in search (rules, h, e),
@@ -42,7 +43,8 @@ both false false f g = refl
 
 -- a test of names decides whether two are the same
 pub decided : (t : Bool) (x y : List ℕ) → IsTrue t ↔ (x ≡ y) → t ≡ same_name y x
-decided t x y h = both t (same_name y x) (λ e. subst (λ z. same_name y z ≡ true) (sym (h.0 e)) (itself y)) (λ e. h.1 (sym (same y x e)))
+decided t x y h = both t (same_name y x) (λ e. subst (λ z. same_name y z ≡ true) (sym (h.0 e)) (itself y))
+    (λ e. h.1 (sym (same y x e)))
 
 below_all : (cs : List ℕ) → list_all (λ c. nat_lt c 128) cs ≡ true → (i : ℕ) → slice_index cs i < 128
 below_all [] e i = omega arith
@@ -61,5 +63,6 @@ name_chars b = chars-IsAscii (bif_name b) (below_all (bif_name b) (name_tested b
 pub row_named : (b : Bif) (t : Bool) (f n : List ℕ) (a : ℕ) → IsTrue t ↔ (f ≡ chars n) → n ≡ bif_name b → arity_of b ≡ a
     → t ≡ is_row (row_of_bif b) f a
 row_named b t f n a h e k =
-    decided t f (bif_name b) (λ p. h.0 p ∙ ap chars e ∙ name_chars b, λ p. h.1 (p ∙ sym (name_chars b) ∙ sym (ap chars e)))
+    decided t f (bif_name b)
+    (λ p. h.0 p ∙ ap chars e ∙ name_chars b, λ p. h.1 (p ∙ sym (name_chars b) ∙ sym (ap chars e)))
     ∙ ap (λ c. c && same_name (bif_name b) f) (sym (eq-eqb (arity_of b) a k))

@@ -1,11 +1,11 @@
 -- Each listed function on a value, and each that can raise on arguments that it refuses.
-use Rattle.std.proofs.Common.{◌≡◌, List, [], ◌∷◌, Some, true, false, pos, negsuc, codes, refl}
+use Rattle.std.proofs.Common.{◌≡◌, List, [], ◌∷◌, map, Some, true, false, pos, negsuc, codes, refl}
 use Rattle.erl_term.specs.Term as T
 use Rattle.erl_term.specs.Term.{Term, none, more, no_pair, pair}
 use Rattle.erl_term.specs.Terms.{word, truth}
 use Rattle.bif_table.specs.Builtins as B
 use Rattle.bif_table.specs.Builtins.{Bif, lookup, bif_name, arity_of}
-use Rattle.bif_table.specs.BuiltinAnswer.{Answer, value, raised, badarg, badarith, badmap, badkey, answer}
+use Rattle.bif_table.specs.BuiltinAnswer.{Answer, value, raised, bad_argument, badarith, badmap, badkey, answer}
 
 -- each function is found by its name and arity
 lookup-bif_name : (b : Bif) → lookup (bif_name b) (arity_of b) ≡ Some b
@@ -41,10 +41,9 @@ record Case : Type 0 where
 abbrev on : Bif → List Term → Answer → Case
 on b ts a = record { bif = b; args = ts; gives = a }
 
--- the own pid is 3
+-- what each row answers where the own pid is 3, and what it says
 abbrev Hold : List Case → Type 0
-Hold [] = Unit {0}
-Hold (c ∷ cs) = (answer c.bif (T.pid 3) c.args ≡ c.gives) × Hold cs
+Hold cs = map (λ c. answer c.bif (T.pid 3) c.args) cs ≡ map (λ c. c.gives) cs
 
 abbrev values : List Case
 values =
@@ -111,7 +110,7 @@ values =
 
 values_hold : Hold values
 unfolding answer
-values_hold = (refl, (refl, (refl, (refl, (refl, (refl, (refl, (refl, (refl, (refl, (refl, (refl, (refl, (refl, (refl, (refl, (refl, (refl, (refl, (refl, (refl, (refl, (refl, (refl, (refl, (refl, (refl, (refl, (refl, (refl, (refl, (refl, (refl, (refl, (refl, (refl, (refl, (refl, (refl, (refl, (refl, (refl, (refl, (refl, (refl, (refl, (refl, (refl, (refl, (refl, (refl, (refl, (refl, (refl, (refl, (refl, (refl, (refl, (refl, tt)))))))))))))))))))))))))))))))))))))))))))))))))))))))))))
+values_hold = refl
 
 abbrev raises : List Case
 raises =
@@ -128,26 +127,26 @@ raises =
     ∷ on B.Bnot ((word (codes "a")) ∷ []) (badarith)
     ∷ on B.Bsl ((T.int (pos 1)) ∷ (word (codes "a")) ∷ []) (badarith)
     ∷ on B.Bsr ((word (codes "a")) ∷ (T.int (pos 1)) ∷ []) (badarith)
-    ∷ on B.Abs ((word (codes "a")) ∷ []) (badarg)
-    ∷ on B.Round ((word (codes "a")) ∷ []) (badarg)
-    ∷ on B.Trunc ((word (codes "a")) ∷ []) (badarg)
-    ∷ on B.Ceil ((word (codes "a")) ∷ []) (badarg)
-    ∷ on B.Floor ((word (codes "a")) ∷ []) (badarg)
-    ∷ on B.And ((word (codes "true")) ∷ (word (codes "a")) ∷ []) (badarg)
-    ∷ on B.Or ((T.int (pos 1)) ∷ (word (codes "true")) ∷ []) (badarg)
-    ∷ on B.Xor ((word (codes "a")) ∷ (word (codes "true")) ∷ []) (badarg)
-    ∷ on B.Not ((word (codes "a")) ∷ []) (badarg)
-    ∷ on B.IsFunction2 (local ∷ (T.int (negsuc 0)) ∷ []) (badarg)
-    ∷ on B.IsRecord2 (couple ∷ (T.int (pos 1)) ∷ []) (badarg)
-    ∷ on B.IsRecord3 (couple ∷ (word (codes "a")) ∷ (word (codes "a")) ∷ []) (badarg)
-    ∷ on B.Element ((T.int (pos 0)) ∷ couple ∷ []) (badarg)
-    ∷ on B.TupleSize (listing ∷ []) (badarg)
-    ∷ on B.Size (listing ∷ []) (badarg)
-    ∷ on B.ByteSize ((T.int (pos 1)) ∷ []) (badarg)
-    ∷ on B.BitSize ((T.int (pos 1)) ∷ []) (badarg)
-    ∷ on B.Length (improper ∷ []) (badarg)
-    ∷ on B.Hd (T.nil ∷ []) (badarg)
-    ∷ on B.Tl (T.nil ∷ []) (badarg)
+    ∷ on B.Abs ((word (codes "a")) ∷ []) (bad_argument)
+    ∷ on B.Round ((word (codes "a")) ∷ []) (bad_argument)
+    ∷ on B.Trunc ((word (codes "a")) ∷ []) (bad_argument)
+    ∷ on B.Ceil ((word (codes "a")) ∷ []) (bad_argument)
+    ∷ on B.Floor ((word (codes "a")) ∷ []) (bad_argument)
+    ∷ on B.And ((word (codes "true")) ∷ (word (codes "a")) ∷ []) (bad_argument)
+    ∷ on B.Or ((T.int (pos 1)) ∷ (word (codes "true")) ∷ []) (bad_argument)
+    ∷ on B.Xor ((word (codes "a")) ∷ (word (codes "true")) ∷ []) (bad_argument)
+    ∷ on B.Not ((word (codes "a")) ∷ []) (bad_argument)
+    ∷ on B.IsFunction2 (local ∷ (T.int (negsuc 0)) ∷ []) (bad_argument)
+    ∷ on B.IsRecord2 (couple ∷ (T.int (pos 1)) ∷ []) (bad_argument)
+    ∷ on B.IsRecord3 (couple ∷ (word (codes "a")) ∷ (word (codes "a")) ∷ []) (bad_argument)
+    ∷ on B.Element ((T.int (pos 0)) ∷ couple ∷ []) (bad_argument)
+    ∷ on B.TupleSize (listing ∷ []) (bad_argument)
+    ∷ on B.Size (listing ∷ []) (bad_argument)
+    ∷ on B.ByteSize ((T.int (pos 1)) ∷ []) (bad_argument)
+    ∷ on B.BitSize ((T.int (pos 1)) ∷ []) (bad_argument)
+    ∷ on B.Length (improper ∷ []) (bad_argument)
+    ∷ on B.Hd (T.nil ∷ []) (bad_argument)
+    ∷ on B.Tl (T.nil ∷ []) (bad_argument)
     ∷ on B.MapSize ((T.int (pos 1)) ∷ []) (badmap (T.int (pos 1)))
     ∷ on B.IsMapKey ((word (codes "a")) ∷ (T.int (pos 1)) ∷ []) (badmap (T.int (pos 1)))
     ∷ on B.MapGet ((word (codes "b")) ∷ mapping ∷ []) (badkey (word (codes "b")))
@@ -159,4 +158,4 @@ raises =
 
 raises_hold : Hold raises
 unfolding answer
-raises_hold = (refl, (refl, (refl, (refl, (refl, (refl, (refl, (refl, (refl, (refl, (refl, (refl, (refl, (refl, (refl, (refl, (refl, (refl, (refl, (refl, (refl, (refl, (refl, (refl, (refl, (refl, (refl, (refl, (refl, (refl, (refl, (refl, (refl, (refl, (refl, (refl, (refl, (refl, (refl, (refl, tt))))))))))))))))))))))))))))))))))))))))
+raises_hold = refl

@@ -1,13 +1,12 @@
 -- What a listed function of the module erlang answers: a value, or a class and a reason (Erlang/OTP 25, module erlang;
 -- integers have no limit here, and there are no floats).
 use Rattle.std.specs.Prelude.{ℕ, zero, suc, ◌+◌, ◌/◌, List, [], ◌∷◌, length, Bool, true, false, not, ◌&&◌, ◌||◌, eqb, Option, Some, None, if◌then◌else◌, ℤ, pos, negsuc, ◌+ℤ◌, ◌-ℤ◌, ◌*ℤ◌, neg_ℤ, nat_abs, int_div, int_rem, codes}
-use Rattle.std.specs.declared.cmp.Ordering.{Ordering}
-use Rattle.std.specs.declared.cmp.Ordering.TheVariants.{Less, Equal, Greater}
 use Rattle.erl_base.specs.Names.{Name}
 use Rattle.erl_term.specs.Term as T
 use Rattle.erl_term.specs.Term.{Term, Terms, none, more, Class}
 use Rattle.erl_term.specs.TermOrder.{compare, count, pair_count, same_term}
 use Rattle.erl_term.specs.Terms.{word, truth, tagged, value_at, is_there}
+use Rattle.erl_term.specs.WellFormed.{is_below}
 pub use Rattle.bif_table.specs.Builtins.{Bif, Add, Subtract, Multiply, Plus, Negate, Div, Rem, Band, Bor, Bxor, Bnot, Bsl, Bsr, Abs, Round, Trunc, Ceil, Floor, Equals, Exactly, Differs, ExactlyNot, Below, AtMost, Above, AtLeast, And, Or, Xor, Not, IsAtom, IsBinary, IsBitstring, IsBoolean, IsFloat, IsFunction, IsInteger, IsList, IsMap, IsNumber, IsPid, IsPort, IsReference, IsTuple, IsFunction2, IsRecord2, IsRecord3, Element, TupleSize, Size, ByteSize, BitSize, Length, Hd, Tl, MapSize, IsMapKey, MapGet, Self, Error1, Error2, Exit1, Throw1}
 pub use Rattle.bif_table.specs.Builtins.{lookup}
 pub use Rattle.bif_table.specs.Kinds.{truth_of, is_int, is_atom, is_bits, is_bytes, is_truth, is_fun, is_list, is_map, is_pid, is_port, is_reference, is_tuple, has_arity}
@@ -24,9 +23,13 @@ pub data Answer : Type 0 where
 abbrev pub badarith : Answer
 badarith = raised T.error (word (codes "badarith"))
 
+-- the reason of a call with a term that it can not take
+abbrev pub badarg : Term
+badarg = word (codes "badarg")
+
 -- an argument that is not of the right kind
-abbrev pub badarg : Answer
-badarg = raised T.error (word (codes "badarg"))
+abbrev pub bad_argument : Answer
+bad_argument = raised T.error badarg
 
 -- what should be a map is none
 abbrev pub badmap : Term → Answer
@@ -42,7 +45,7 @@ number_of n = value (T.int (pos n))
 
 -- a term that is there
 abbrev pub or_badarg : Option Term → Answer
-or_badarg None = badarg
+or_badarg None = bad_argument
 or_badarg (Some t) = value t
 
 -- Numbers.
@@ -79,12 +82,12 @@ remainder a b = of_numbers (λ x y. unless_zero y (value (T.int (int_rem x y))))
 
 -- a function of one truth value
 abbrev pub by_truth : (Bool → Bool) → Option Bool → Answer
-by_truth f None = badarg
+by_truth f None = bad_argument
 by_truth f (Some a) = value (truth (f a))
 
 -- a function of two truth values
 abbrev pub by_truths : (Bool → Bool → Bool) → Option Bool → Option Bool → Answer
-by_truths f None b = badarg
+by_truths f None b = bad_argument
 by_truths f (Some a) b = by_truth (f a) b
 
 -- both
@@ -104,7 +107,7 @@ xor_bool a b = if a then not b else b
 -- whether a term is a fun of the arity that a number says
 abbrev pub is_fun_of : Term → Term → Answer
 is_fun_of t (T.int (pos n)) = value (truth (has_arity t n))
-is_fun_of t _ = badarg
+is_fun_of t _ = bad_argument
 
 -- whether a tuple begins with this atom
 unfoldable pub has_tag : Term → Name → Bool
@@ -121,13 +124,13 @@ has_size _ _ = false
 unfoldable pub is_record : Term → Term → Answer
 unfolding has_tag
 is_record t (T.atom a) = value (truth (has_tag t a))
-is_record t _ = badarg
+is_record t _ = bad_argument
 
 -- whether it is, and has this size
 unfoldable pub is_record_of : Term → Term → Term → Answer
 unfolding has_tag
 is_record_of t (T.atom a) (T.int n) = value (truth (has_tag t a && has_size t n))
-is_record_of t _ _ = badarg
+is_record_of t _ _ = bad_argument
 
 -- Parts.
 
@@ -140,39 +143,39 @@ nth (suc n) (more t ts) = nth n ts
 -- an element, counted from 1
 abbrev pub element : Term → Term → Answer
 element (T.int (pos (suc n))) (T.tuple ts) = or_badarg (nth n ts)
-element _ _ = badarg
+element _ _ = bad_argument
 
 -- how many elements a tuple has
 abbrev pub tuple_size : Term → Answer
 tuple_size (T.tuple ts) = number_of (count ts)
-tuple_size _ = badarg
+tuple_size _ = bad_argument
 
 -- of a tuple its elements, of bits its whole bytes
 abbrev pub size : Term → Answer
 size (T.tuple ts) = number_of (count ts)
 size (T.bits bs) = number_of (length bs / 8)
-size _ = badarg
+size _ = bad_argument
 
 -- a function of the number of bits
 abbrev pub bits_size : (ℕ → ℕ) → Term → Answer
 bits_size f (T.bits bs) = number_of (f (length bs))
-bits_size f _ = badarg
+bits_size f _ = bad_argument
 
 -- how many items a proper list has, behind n
 abbrev pub items : ℕ → Term → Answer
 items n T.nil = number_of n
 items n (T.cons x y) = items (suc n) y
-items n _ = badarg
+items n _ = bad_argument
 
 -- the first item of a list
 abbrev pub head : Term → Answer
 head (T.cons x y) = value x
-head _ = badarg
+head _ = bad_argument
 
 -- and the rest
 abbrev pub tail : Term → Answer
 tail (T.cons x y) = value y
-tail _ = badarg
+tail _ = bad_argument
 
 -- how many keys a map has
 abbrev pub map_size : Term → Answer
@@ -198,16 +201,10 @@ map_get k t = badmap t
 
 -- Comparisons.
 
--- whether the first of two comes before the second
-abbrev pub is_less : Ordering → Bool
-is_less Less = true
-is_less Equal = false
-is_less Greater = false
-
 -- in the order of terms
 unfoldable pub below : Term → Term → Bool
 unfolding compare
-below a b = is_less (compare a b)
+below a b = is_below (compare a b)
 
 -- Answers. A function has as many arguments as its row says.
 
@@ -216,11 +213,11 @@ unfoldable pub one_answer : Bif → Term → Answer
 one_answer Plus a = of_number (λ x. x) a badarith
 one_answer Negate a = of_number neg_ℤ a badarith
 one_answer Bnot a = of_number int_not a badarith
-one_answer Abs a = of_number (λ x. pos (nat_abs x)) a badarg
-one_answer Round a = of_number (λ x. x) a badarg
-one_answer Trunc a = of_number (λ x. x) a badarg
-one_answer Ceil a = of_number (λ x. x) a badarg
-one_answer Floor a = of_number (λ x. x) a badarg
+one_answer Abs a = of_number (λ x. pos (nat_abs x)) a bad_argument
+one_answer Round a = of_number (λ x. x) a bad_argument
+one_answer Trunc a = of_number (λ x. x) a bad_argument
+one_answer Ceil a = of_number (λ x. x) a bad_argument
+one_answer Floor a = of_number (λ x. x) a bad_argument
 one_answer Not a = by_truth not (truth_of a)
 one_answer IsAtom a = value (truth (is_atom a))
 one_answer IsBinary a = value (truth (is_bytes a))
@@ -247,7 +244,7 @@ one_answer MapSize a = map_size a
 one_answer Error1 a = raised T.error a
 one_answer Exit1 a = raised T.exit a
 one_answer Throw1 a = raised T.throw a
-one_answer _ a = badarg
+one_answer _ a = bad_argument
 
 -- of two
 unfoldable pub two_answer : Bif → Term → Term → Answer
@@ -279,13 +276,13 @@ two_answer Element a b = element a b
 two_answer IsMapKey a b = is_map_key a b
 two_answer MapGet a b = map_get a b
 two_answer Error2 a b = raised T.error a
-two_answer _ a b = badarg
+two_answer _ a b = bad_argument
 
 -- of three
 unfoldable pub three_answer : Bif → Term → Term → Term → Answer
 unfolding is_record_of
 three_answer IsRecord3 a b c = is_record_of a b c
-three_answer _ a b c = badarg
+three_answer _ a b c = bad_argument
 
 -- what a function answers, in the process with this own pid
 unfoldable pub answer : Bif → Term → List Term → Answer

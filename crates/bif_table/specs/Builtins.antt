@@ -141,3 +141,7 @@ is_collecting b = elim (group_of b) [ plain ↦ false | collecting ↦ true | ra
 -- whether a function of this name and arity is listed that always raises
 abbrev pub raises_always : Name → ℕ → Bool
 raises_always f n = elim (lookup f n) [ None ↦ false | Some b ↦ not (is_guard b) ]
+
+-- whether a function is one of the module erlang that always raises
+abbrev pub never_returns : (home name : Name) (arity : ℕ) → Bool
+never_returns m f n = same_name m (codes "erlang") && raises_always f n

@@ -11,8 +11,6 @@
 
 mod table;
 mod term_test;
-#[cfg(test)]
-mod tests;
 
 pub use table::{Bif, is_guard, lookup};
 pub use term_test::{Comparison, TypeTest};

@@ -40,12 +40,14 @@ code_fits : (n code size : ℕ) → size ≤ n → CharFits n (code_escape code 
 code_fits n code size h = either (CharFits n) (scalar code) (Some (code, size)) None (λ _. h) (λ _. tt)
 
 octal_fits : (cs : List ℕ) → CharFits (1 + length cs) (octal_escape cs)
-octal_fits cs = code_fits (1 + length cs) (value_from 8 0 (take_while is_octal (take 3 cs))) (1 + length (take_while is_octal (take 3 cs))) (omega (arith, run_fits is_octal (take 3 cs), length-take 3 cs))
+octal_fits cs = code_fits (1 + length cs) (value_from 8 0 (take_while is_octal (take 3 cs)))
+    (1 + length (take_while is_octal (take 3 cs))) (omega (arith, run_fits is_octal (take 3 cs), length-take 3 cs))
 
 short_fits : (cs : List ℕ) → CharFits (2 + length cs) (short_hex_escape cs)
 short_fits cs = either (CharFits (2 + length cs)) (eqb (length (take_while is_hex (take 2 cs))) 2) _ None
     (λ e. let two : length (take_while is_hex (take 2 cs)) ≡ 2 = grind (arith, nat_tests) in
-    code_fits (2 + length cs) (value_from 16 0 (take_while is_hex (take 2 cs))) 4 (omega (arith, run_fits is_hex (take 2 cs), length-take 2 cs)))
+    code_fits (2 + length cs) (value_from 16 0 (take_while is_hex (take 2 cs))) 4
+    (omega (arith, run_fits is_hex (take 2 cs), length-take 2 cs)))
     (λ _. tt)
 
 long_fits : (cs : List ℕ) → CharFits (3 + length cs) (long_hex_escape cs)
@@ -53,7 +55,13 @@ long_fits cs =
     let digits : ℕ = length (take_while is_hex cs) in
     either (CharFits (3 + length cs)) (nat_le 1 digits && first_is (λ c. eqb c 125) (drop digits cs)) _ None
     (λ e. code_fits (3 + length cs) (value_from 16 0 (take_while is_hex cs)) (4 + digits)
-    (omega (arith, run_fits is_hex cs, not_empty (λ c. eqb c 125) (drop digits cs) (second_true (nat_le 1 digits) (first_is (λ c. eqb c 125) (drop digits cs)) e), length-drop digits cs)))
+    (omega (
+      arith,
+      run_fits is_hex cs,
+      not_empty (λ c. eqb c 125) (drop digits cs)
+          (second_true (nat_le 1 digits) (first_is (λ c. eqb c 125) (drop digits cs)) e),
+      length-drop digits cs,
+    )))
     (λ _. tt)
 
 more_fits : (m n : ℕ) (r : Option (ℕ × ℕ)) → m ≤ n → CharFits m r → CharFits n r
@@ -62,12 +70,14 @@ more_fits m n (Some c) h f = omega arith
 
 hex_fits : (cs : List ℕ) → CharFits (2 + length cs) (hex_escape cs)
 hex_fits cs = either (CharFits (2 + length cs)) (first_is (λ c. eqb c 123) cs) _ _
-    (λ e. more_fits _ (2 + length cs) _ (omega (arith, not_empty (λ c. eqb c 123) cs e, length-drop 1 cs)) (long_fits (drop 1 cs)))
+    (λ e. more_fits _ (2 + length cs) _ (omega (arith, not_empty (λ c. eqb c 123) cs e, length-drop 1 cs))
+    (long_fits (drop 1 cs)))
     (λ _. short_fits cs)
 
 control_fits : (cs : List ℕ) → CharFits (2 + length cs) (control_escape cs)
 control_fits [] = tt
-control_fits (c ∷ cs) = either (CharFits (2 + length (c ∷ cs))) (is_in_range 64 95 c) _ None (λ _. omega arith) (λ _. tt)
+control_fits (c ∷ cs) = either (CharFits (2 + length (c ∷ cs))) (is_in_range 64 95 c) _ None
+    (λ _. omega arith) (λ _. tt)
 
 letter_fits : (n : ℕ) (r : Option ℕ) → 2 ≤ n → CharFits n (option_map (λ m. (m, 2)) r)
 letter_fits n None h = tt

@@ -27,7 +27,8 @@ cap_step n b d top h = elim (cases_lt n top) [
       omega arith
 ]
 
-pub capped : (b top : ℕ) → 1 ≤ b → (ds : List ℕ) (n : ℕ) → min (value_from b (min n top) ds) top ≡ min (value_from b n ds) top
+pub capped : (b top : ℕ) → 1 ≤ b → (ds : List ℕ) (n : ℕ)
+    → min (value_from b (min n top) ds) top ≡ min (value_from b n ds) top
 capped b top h [] n = omega arith
 capped b top h (d ∷ ds) n =
     sym (capped b top h ds (min n top * b + digit_value d))
@@ -35,7 +36,8 @@ capped b top h (d ∷ ds) n =
     ∙ capped b top h ds (n * b + digit_value d)
 
 -- one digit more
-pub capped_more : (b top n m total d : ℕ) (ds rest : List ℕ) → 1 ≤ b → ds ≡ d ∷ rest → m ≡ min (n * b + digit_value d) top
+pub capped_more : (b top n m total d : ℕ) (ds rest : List ℕ) → 1 ≤ b → ds ≡ d ∷ rest
+    → m ≡ min (n * b + digit_value d) top
     → min (value_from b n ds) top ≡ total → min (value_from b m rest) top ≡ total
 capped_more b top n m total d ds rest h e f g =
     ap (λ x. min (value_from b x rest) top) f ∙ capped b top h rest (n * b + digit_value d)
@@ -58,7 +60,8 @@ drop_item xs i x h e = drop_more xs i x h ∙ ap (λ y. y ∷ drop (i + 1) xs) (
 run_taken : (p : ℕ → Bool) (xs : List ℕ) → take (length (take_while p xs)) xs ≡ take_while p xs
 run_taken p xs = ap (λ n. take n xs) (length-take (prefix_len p xs) xs) ∙ take_min (prefix_len p xs) xs
 
-pub octal_read : (front rest : List ℕ) (size code : ℕ) (r : Option (ℕ × ℕ)) → front ≡ take 3 rest → size ≡ length (take_while is_octal front)
+pub octal_read : (front rest : List ℕ) (size code : ℕ) (r : Option (ℕ × ℕ)) → front ≡ take 3 rest
+    → size ≡ length (take_while is_octal front)
     → code ≡ min (value_from 8 0 (take size front)) 1114112 → r ≡ code_escape code (1 + size) → r ≡ octal_escape rest
 octal_read front rest size code r e f g h =
     h ∙ code_escape_capped (value_from 8 0 (take size front)) code (1 + size) g
@@ -68,13 +71,15 @@ octal_read front rest size code r e f g h =
 all_taken : (p : ℕ → Bool) (xs : List ℕ) → length xs ≤ length (take_while p xs) → take_while p xs ≡ xs
 all_taken p xs h = sym (run_taken p xs) ∙ take_all (length (take_while p xs)) xs h
 
-pub short_hex_read : (front rest : List ℕ) (size code : ℕ) (r : Option (ℕ × ℕ)) → front ≡ take 2 rest → size ≡ length (take_while is_hex front) → size ≡ 2
+pub short_hex_read : (front rest : List ℕ) (size code : ℕ) (r : Option (ℕ × ℕ)) → front ≡ take 2 rest
+    → size ≡ length (take_while is_hex front) → size ≡ 2
     → code ≡ min (value_from 16 0 front) 1114112 → r ≡ code_escape code 4 → r ≡ short_hex_escape rest
 short_hex_read front rest size code r e f two g h =
     let long : length front ≤ 2 = omega (arith, ap length e, length-take 2 rest) in
     let run : take_while is_hex front ≡ front = all_taken is_hex front (omega arith) in
     let taken : take_while is_hex (take 2 rest) ≡ front = ap (take_while is_hex) (sym e) ∙ run in
-    let count : length (take_while is_hex (take 2 rest)) ≡ 2 = ap (λ xs. length (take_while is_hex xs)) (sym e) ∙ sym f ∙ two in
+    let count : length (take_while is_hex (take 2 rest)) ≡ 2 =
+    ap (λ xs. length (take_while is_hex xs)) (sym e) ∙ sym f ∙ two in
     h ∙ code_escape_capped (value_from 16 0 front) code 4 g
     ∙ ap (λ xs. code_escape (value_from 16 0 xs) 4) (sym taken)
     ∙ sym (ap (λ n. cond (eqb n 2) (code_escape (value_from 16 0 (take_while is_hex (take 2 rest))) 4) None) count)

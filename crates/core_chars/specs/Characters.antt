@@ -15,12 +15,15 @@ is_lower c = is_in_range 97 122 c
 abbrev pub is_upper : ℕ → Bool
 is_upper c = is_in_range 65 90 c
 
+-- 0 to 9
 abbrev pub is_digit : ℕ → Bool
 is_digit c = is_in_range 48 57 c
 
+-- 0 to 7
 abbrev pub is_octal : ℕ → Bool
 is_octal c = is_in_range 48 55 c
 
+-- 0 to 9, A to F and a to f
 abbrev pub is_hex : ℕ → Bool
 is_hex c = is_digit c || is_in_range 65 70 c || is_in_range 97 102 c
 
@@ -31,11 +34,14 @@ is_capital c = is_upper c || (is_in_range 192 222 c && not (c == 215)) || c == 9
 -- what goes on a word or a variable: ASCII letters and digits, the underscore, the at sign,
 -- and U+00C0 to U+00FF without the multiplication and the division sign
 abbrev pub is_name_char : ℕ → Bool
-is_name_char c = is_lower c || is_in_range 64 90 c || is_digit c || c == 95 || (is_in_range 192 255 c && not (c == 215) && not (c == 247))
+is_name_char c = is_lower c || is_in_range 64 90 c || is_digit c || c == 95
+    || (is_in_range 192 255 c && not (c == 215) && not (c == 247))
 
+-- plus and minus
 abbrev pub is_sign : ℕ → Bool
 is_sign c = c == 43 || c == 45
 
+-- e and E
 abbrev pub is_exponent_mark : ℕ → Bool
 is_exponent_mark c = c == 101 || c == 69
 

@@ -1,9 +1,11 @@
-//! What lexemes are made of: the classes of characters, escapes, quoted texts, names and the numbers that digits write. Each
-//! function equals one definition of `specs/`, and looks at no character behind those that it counts but the next.
+//! What lexemes are made of: the classes of characters, escapes, quoted texts, names and the numbers that digits
+//! write.
 //!
-//! What the contracts leave open is want of memory alone: `name_of`, `name_in`, `quoted_text` and `quoted_in` may answer it at any
-//! time.
-//! The tests of the crates above run them.
+//! Of `a\x41b'` behind a quote come the name `aAb` and that seven characters write it, the closing quote counted.
+//!
+//! Sound, since each function equals one definition of `specs/`, and looks at no character behind those that it counts
+//! but the next. Where the characters write nothing the answer is `None`; which place is at fault, and what the
+//! lexemes form, is said by the crates above.
 #![tactic(auto)]
 
 mod classes;

@@ -31,7 +31,8 @@ pub fn quoted_text(
     quote: char,
     rest: &[char],
 ) -> Result<Option<(Vec<char>, usize)>, NoMemory>
-    ensures value { IfOk result (λ found. option_map (λ text. (text.0.items, text.1)) found ≡ quoted_text quote rest.now 0) }
+    ensures value { IfOk result (λ found.
+        option_map (λ text. (text.0.items, text.1)) found ≡ quoted_text quote rest.now 0) }
     ensures fits { IfOk result (λ found. IfSome found (λ text. text.1 ≤ length rest.now)) }
 {
     let mut text = Vec::new(alloc);
@@ -47,7 +48,8 @@ pub fn quoted_in(
     quote: char,
     rest: &[char],
 ) -> Result<Option<usize>, NoMemory>
-    ensures value { IfOk result (λ found. option_map (λ size. (text.new.items, size)) found ≡ quoted_text quote rest.now 0) }
+    ensures value { IfOk result (λ found.
+        option_map (λ size. (text.new.items, size)) found ≡ quoted_text quote rest.now 0) }
     ensures fits { IfOk result (λ found. IfSome found (λ size. size ≤ length rest.now)) }
 {
     text.clear();

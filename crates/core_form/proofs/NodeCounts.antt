@@ -15,20 +15,27 @@ none : (ns : List ℕ) → Within ns []
 none ns = record { at = All-nil (λ p. nodes p ≤ sum ns) }
 
 wider : (ms ns : List ℕ) (xs : List Expr) → sum ms ≤ sum ns → Within ms xs → Within ns xs
-wider ms ns xs h w = record { at = All-weaker (λ p. nodes p ≤ sum ms) (λ p. nodes p ≤ sum ns) (λ p k. omega (arith, h, k)) xs w.at }
+wider ms ns xs h w = record {
+  at = All-weaker (λ p. nodes p ≤ sum ms) (λ p. nodes p ≤ sum ns)
+      (λ p k. omega (arith, h, k)) xs w.at;
+}
 
 -- one part behind the other
 both : {ms ns : List ℕ} {xs ys : List Expr} → Within ms xs → Within ns ys → Within (ms ++ ns) (xs ++ ys)
 both {ms} {ns} {xs} {ys} v w =
     let h = sum_by-append (λ n. n) ms ns in
-    record { at = All-append (λ p. nodes p ≤ sum (ms ++ ns)) xs ys (wider ms (ms ++ ns) xs (omega (arith, h)) v).at (wider ns (ms ++ ns) ys (omega (arith, h)) w).at }
+    record {
+      at = All-append (λ p. nodes p ≤ sum (ms ++ ns)) xs ys (wider ms (ms ++ ns) xs (omega (arith, h)) v).at
+          (wider ns (ms ++ ns) ys (omega (arith, h)) w).at;
+    }
 
 -- a node that is no expression
 more : {ns : List ℕ} {xs : List Expr} (k : ℕ) → Within ns xs → Within (k ∷ ns) xs
 more {ns} {xs} k w = let h = sum_by-cons (λ n. n) k ns in wider ns (k ∷ ns) xs (omega (arith, h)) w
 
 -- an expression and its parts
-whole : {ns : List ℕ} {xs : List Expr} (e : Expr) (k : ℕ) → nodes e ≡ sum (k ∷ ns) → Within ns xs → Within (k ∷ ns) (e ∷ xs)
+whole : {ns : List ℕ} {xs : List Expr} (e : Expr) (k : ℕ) → nodes e ≡ sum (k ∷ ns) → Within ns xs
+    → Within (k ∷ ns) (e ∷ xs)
 whole {ns} {xs} e k h w = record { at = All-cons (λ p. nodes p ≤ sum (k ∷ ns)) e xs (omega (arith, h)) (more k w).at }
 
 mutual

@@ -93,10 +93,13 @@ map_in_pattern = refl
 known_tuple : source_pattern (tuple_like at (and_pattern (known at T.nil) no_pattern)) ≡ false
 known_tuple = refl
 
-tail_in_pattern : source_pattern (list_like at (and_pattern (any at (codes "X")) no_pattern) (known at (T.cons T.nil T.nil))) ≡ false
+tail_in_pattern : source_pattern
+    (list_like at (and_pattern (any at (codes "X")) no_pattern) (known at (T.cons T.nil T.nil))) ≡ false
 tail_in_pattern = refl
 
-atom_segment : source_pattern (bits_like at (and_seg (seg_pattern at (known at T.nil) one (T.int (pos 1)) (codes "integer") flags) no_seg)) ≡ false
+atom_segment : source_pattern
+    (bits_like at (and_seg (seg_pattern at (known at T.nil) one (T.int (pos 1)) (codes "integer") flags) no_seg))
+    ≡ false
 atom_segment = refl
 
 -- no text writes a pid, nor an integer past 128 bits
@@ -114,5 +117,7 @@ bound_variables : nodes (let_in at (binder ∷ binder ∷ []) x (fun at (binder 
 bound_variables = refl
 
 -- a clause's head without its body
-clause_head : head_nodes (and_clause (clause at (and_pattern (any at (codes "X")) no_pattern) one (tuple at (and_expr x no_expr))) no_clause) ≡ 2
+clause_head : head_nodes
+    (and_clause (clause at (and_pattern (any at (codes "X")) no_pattern) one (tuple at (and_expr x no_expr))) no_clause)
+    ≡ 2
 clause_head = refl

@@ -1,9 +1,10 @@
 -- The functions that stand in an expression, and the variables that each captures (this project's own).
 use Rattle.std.specs.Prelude.{ℕ, suc, ◌+◌, List, [], ◌∷◌, ◌++◌, ◌&&◌, ltb, length, Option, Some, None, if◌then◌else◌, not}
+use Rattle.erl_base.specs.Lists.{among}
 use Rattle.erl_base.specs.Names.{Name}
 use Rattle.erl_base.specs.declared.ids.Place.{Place}
 use Rattle.core_form.specs.Core.{Expr, values, var, fun_name, literal, list, tuple, new_map, map_of, binary, fun, let_in, letrec, case, apply, call, primop, do_then, catch, try, receive, Exprs, no_expr, and_expr, MapParts, no_part, and_part, map_part, Segments, no_segment, and_segment, segment, Defs, no_def, and_def, def, Clauses, no_clause, and_clause, clause, Pattern, any, alias, known, list_like, tuple_like, map_like, bits_like, Patterns, no_pattern, and_pattern, KeyPatterns, no_key, and_key, key_pattern, SegPatterns, no_seg, and_seg, seg_pattern}
-use Rattle.core_form.specs.Scope.{Use, Scope, function, binding, function_of, with_names, names_of, among, body_of, bound, bound_all}
+use Rattle.core_form.specs.Scope.{Use, Scope, function, binding, function_of, with_names, names_of, body_of, bound, bound_all}
 
 -- How many sites stand in an expression.
 abbrev mutual
@@ -117,7 +118,8 @@ abbrev mutual
 
   pub occurring_segments : Segments → Scope → List Use
   occurring_segments no_segment g = []
-  occurring_segments (and_segment (segment p v s u k f) ss) g = occurring v g ++ occurring s g ++ occurring_segments ss g
+  occurring_segments (and_segment (segment p v s u k f) ss) g =
+      occurring v g ++ occurring s g ++ occurring_segments ss g
 
   pub occurring_defs : Defs → Scope → List Use
   occurring_defs no_def g = []

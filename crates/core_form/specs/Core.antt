@@ -1,5 +1,6 @@
 -- Core Erlang modules as plain trees (Core Erlang 1.0.3, section 4; maps and two-variable `catch` as OTP 25 prints
--- them). A node begins with its place. A list of nodes is a family of its own, `no_..` or `and_..` an item and the rest.
+-- them). A node begins with its place. A list of nodes is a family of its own, `no_..` or `and_..` an item and the
+-- rest.
 use Rattle.std.specs.Prelude.{ℕ, Bool, List, Option}
 use Rattle.erl_base.specs.Names.{Name}
 use Rattle.erl_base.specs.declared.ids.Place.{Place}

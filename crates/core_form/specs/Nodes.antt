@@ -1,5 +1,5 @@
--- How many nodes a piece of a module has: its expressions, patterns, clauses and segments, and the variables that `fun`,
--- `let` and `try` bind. A constant is one node, and so is the empty tail of a list (this project's own measure).
+-- How many nodes a piece of a module has: its expressions, patterns, clauses and segments, and the variables that
+-- `fun`, `let` and `try` bind. A constant is one node, and so is the empty tail of a list (this project's own measure).
 use Rattle.std.specs.Prelude.{ℕ, suc, ◌+◌, ◌≤◌, List, [], ◌∷◌, length}
 use Rattle.std.specs.List.{sum, All}
 use Rattle.core_form.specs.Core.{Expr, fun, let_in, try, Patterns, Clauses, no_clause, and_clause, clause}

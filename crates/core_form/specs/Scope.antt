@@ -1,7 +1,7 @@
 -- What names mean where they stand (Core Erlang 1.0.3, section 5: inner names hide outer ones).
 -- A variable's binding has a number, which no other one has that can be seen from the same place. A function's name
 -- means a site and what the function captures.
-use Rattle.std.specs.Prelude.{ℕ, zero, suc, List, [], ◌∷◌, ◌++◌, Bool, true, false, eqb, length, Option, Some, None, if◌then◌else◌}
+use Rattle.std.specs.Prelude.{ℕ, zero, suc, List, [], ◌∷◌, ◌++◌, length, Option, Some, None, if◌then◌else◌}
 use Rattle.erl_base.specs.Names.{Name, same_name, same_key}
 use Rattle.erl_base.specs.declared.ids.Place.{Place}
 use Rattle.erl_base.specs.declared.ids.FunKey.{FunKey}
@@ -54,11 +54,6 @@ names_of (b ∷ bs) = b.name ∷ names_of bs
 abbrev pub numbers_of : List Use → List ℕ
 numbers_of [] = []
 numbers_of (u ∷ us) = u.number ∷ numbers_of us
-
--- whether a number is one of these
-abbrev pub among : ℕ → List ℕ → Bool
-among n [] = false
-among n (m ∷ ms) = if eqb n m then true else among n ms
 
 -- The right side of a definition is a fun; another expression would be read as the body of one without parameters.
 

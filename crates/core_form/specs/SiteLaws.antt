@@ -10,10 +10,12 @@ use Rattle.core_form.specs.Sites.{sites, module_sites, def_count}
 abbrev pub SitesAreCounted : Type 0
 SitesAreCounted = (e : Expr) (g : Scope) (k : ℕ) → length (sites e g k) ≡ sites_in e
 
+-- how many sites stand inside the functions of a module's definitions, the functions themselves not counted
 abbrev pub inner_count : Defs → ℕ
 inner_count no_def = 0
 inner_count (and_def (def p f e) ds) = sites_in (body_of e) + inner_count ds
 
+-- the function that each definition defines
 abbrev pub keys_of : Defs → List (Option FunKey)
 keys_of no_def = []
 keys_of (and_def (def p f e) ds) = Some f ∷ keys_of ds

@@ -1,5 +1,5 @@
--- The shape that the tree of a text always has (Core Erlang 1.0.3, section 4, as OTP 25 prints it): what could be written as a
--- constant is one, a list goes on in no list, right sides are funs, and names and constants have a text.
+-- The shape that the tree of a text always has (Core Erlang 1.0.3, section 4, as OTP 25 prints it): what could be
+-- written as a constant is one, a list goes on in no list, right sides are funs, and names and constants have a text.
 use Rattle.std.specs.Prelude.{◌≡◌, ℕ, zero, suc, ◌*◌, ◌^◌, ◌≤◌, List, [], ◌∷◌, length, Bool, true, false, not, ◌&&◌, ◌||◌, ltb, leb, eqb, IsTrue, ℤ, pos, Option, None, codes}
 use Rattle.std.specs.List.{list_all}
 use Rattle.erl_base.specs.Names.{Name, same_name}
@@ -20,6 +20,7 @@ abbrev pub is_variable_name : Name → Bool
 is_variable_name [] = false
 is_variable_name (c ∷ cs) = is_capital c && list_all is_name_char cs
 
+-- all of them are names of variables
 abbrev pub are_variables : List Binder → Bool
 are_variables xs = list_all (λ x. is_variable_name x.name) xs
 
@@ -51,10 +52,12 @@ module _ (in_pattern : Bool) where
 
 -- Expressions, each by itself and its parts by their own turn.
 
+-- a literal
 abbrev pub is_literal : Expr → Bool
 is_literal (literal p t) = true
 is_literal _ = false
 
+-- all of them are literals
 abbrev pub are_literals : Exprs → Bool
 are_literals no_expr = true
 are_literals (and_expr e es) = is_literal e && are_literals es
@@ -65,6 +68,7 @@ is_list (list p es e) = true
 is_list (literal p (T.cons x y)) = true
 is_list _ = false
 
+-- at least one expression
 abbrev pub has_item : Exprs → Bool
 has_item no_expr = false
 has_item (and_expr e es) = true
@@ -72,8 +76,10 @@ has_item (and_expr e es) = true
 -- pairs that make a constant map: none of them asks for its key to be there
 abbrev pub are_constant_pairs : MapParts → Bool
 are_constant_pairs no_part = true
-are_constant_pairs (and_part (map_part k v exact) ps) = is_literal k && is_literal v && not exact && are_constant_pairs ps
+are_constant_pairs (and_part (map_part k v exact) ps) =
+    is_literal k && is_literal v && not exact && are_constant_pairs ps
 
+-- a `fun`
 abbrev pub is_function : Expr → Bool
 is_function (fun p xs e) = true
 is_function _ = false
@@ -83,6 +89,7 @@ abbrev pub are_functions : Defs → Bool
 are_functions no_def = true
 are_functions (and_def (def p f e) ds) = is_arity f.arity && is_function e && are_functions ds
 
+-- at least one clause
 abbrev pub has_clause : Clauses → Bool
 has_clause no_clause = false
 has_clause (and_clause c cs) = true
@@ -91,6 +98,7 @@ has_clause (and_clause c cs) = true
 abbrev pub is_caught : List Binder → Bool
 is_caught ys = eqb (length ys) 2 || eqb (length ys) 3
 
+-- an expression whose own form a text can have; its parts are looked at on their own
 abbrev pub source_expr : Expr → Bool
 source_expr (var p x) = is_variable_name x
 source_expr (fun_name p f) = is_arity f.arity
@@ -107,18 +115,22 @@ source_expr _ = true
 
 -- Patterns.
 
+-- a literal pattern
 abbrev pub is_known : Pattern → Bool
 is_known (known p t) = true
 is_known _ = false
 
+-- all of them are literal patterns
 abbrev pub are_known : Patterns → Bool
 are_known no_pattern = true
 are_known (and_pattern r qs) = is_known r && are_known qs
 
+-- at least one pattern
 abbrev pub has_pattern : Patterns → Bool
 has_pattern no_pattern = false
 has_pattern (and_pattern r qs) = true
 
+-- a pattern of list cells, also one that is a literal
 abbrev pub is_list_pattern : Pattern → Bool
 is_list_pattern (list_like p qs r) = true
 is_list_pattern (known p (T.cons x y)) = true
@@ -130,6 +142,7 @@ is_simple (var p x) = true
 is_simple (literal p t) = true
 is_simple _ = false
 
+-- the keys of a map pattern are simple
 abbrev pub keys_simple : KeyPatterns → Bool
 keys_simple no_key = true
 keys_simple (and_key (key_pattern e r) ks) = is_simple e && keys_simple ks
@@ -140,10 +153,12 @@ is_segment_value (any p x) = true
 is_segment_value (known p (T.int z)) = true
 is_segment_value _ = false
 
+-- the values and sizes of a binary pattern are simple
 abbrev pub segs_simple : SegPatterns → Bool
 segs_simple no_seg = true
 segs_simple (and_seg (seg_pattern p r e u k f) ss) = is_segment_value r && is_simple e && segs_simple ss
 
+-- a pattern whose own form a text can have
 abbrev pub source_pattern : Pattern → Bool
 source_pattern (any p x) = is_variable_name x
 source_pattern (alias p x r) = is_variable_name x
@@ -153,11 +168,14 @@ source_pattern (tuple_like p qs) = not (are_known qs)
 source_pattern (map_like p ks) = keys_simple ks
 source_pattern (bits_like p ss) = segs_simple ss
 
--- Binaries of constant segments. Where a number was read as 0, since it is a float or too wide, the tree does not tell them.
+-- Binaries of constant segments. Where a number was read as 0, since it is a float or too wide, the tree does not tell
+-- them.
 
+-- a flag of a segment that tells its sign or its order of bytes
 abbrev pub is_flag : Term → Bool
 is_flag (T.atom a) =
-    same_name a (codes "signed") || same_name a (codes "unsigned") || same_name a (codes "big") || same_name a (codes "little")
+    same_name a (codes "signed") || same_name a (codes "unsigned") || same_name a (codes "big")
+    || same_name a (codes "little")
 is_flag _ = false
 
 -- a proper list of flags, `native` not among them
@@ -172,11 +190,13 @@ is_constant_segment (literal p (T.int z)) (literal q (T.int (pos n))) (T.int (po
     leb 1 u && leb u 256 && leb (n * u) 256
 is_constant_segment _ _ _ = false
 
+-- all segments are constant integers
 abbrev pub are_constant_segments : Segments → Bool
 are_constant_segments no_segment = true
 are_constant_segments (and_segment (segment p v s u k f) ss) =
     is_constant_segment v s u && same_name k (codes "integer") && are_flags f && are_constant_segments ss
 
+-- not a binary of constant segments
 abbrev pub is_no_constant_binary : Expr → Bool
 is_no_constant_binary (binary p ss) = not (are_constant_segments ss)
 is_no_constant_binary _ = true
@@ -192,6 +212,7 @@ shapes = record {
   at_segment = λ p s u k f. (is_written false u && is_written false f) ∷ [];
 }
 
+-- the question whether a piece has no binary of constant segments
 abbrev pub binaries : Asked Bool
 binaries = record {
   at_expr = λ e. is_no_constant_binary e ∷ [];
@@ -200,9 +221,11 @@ binaries = record {
   at_segment = λ p s u k f. [];
 }
 
+-- every answer is yes
 abbrev pub AllHold : List Bool → Type 0
 AllHold bs = IsTrue (list_all (λ b. b) bs)
 
+-- a module's tree that a text can have
 pub record IsSourceTree (m : Module) : Type 0 where
   pub exports : IsTrue (list_all (λ f. is_arity f.key.arity) m.exports)
   pub attributes : IsTrue (list_all (λ a. is_written false a.1) m.attributes)

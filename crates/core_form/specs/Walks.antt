@@ -73,7 +73,8 @@ module _ {A : Type 0} (at : Expr → Scope → List ℕ → List A) where
 
     pub within_segments : Segments → Scope → List ℕ → List A
     within_segments no_segment g ls = []
-    within_segments (and_segment (segment p v s u k f) ss) g ls = within v g ls ++ within s g ls ++ within_segments ss g ls
+    within_segments (and_segment (segment p v s u k f) ss) g ls =
+        within v g ls ++ within s g ls ++ within_segments ss g ls
 
     pub within_clauses : Clauses → Scope → List ℕ → List A
     within_clauses no_clause g ls = []
@@ -82,6 +83,7 @@ module _ {A : Type 0} (at : Expr → Scope → List ℕ → List A) where
 
 -- Uses of a binding.
 
+-- how often a variable is used
 abbrev pub times : ℕ → List Use → ℕ
 times n [] = 0
 times n (u ∷ us) = if eqb u.number n then suc (times n us) else times n us
@@ -133,7 +135,8 @@ module _ {A : Type 0} (q : Asked A) where
 
     pub all_segments : Segments → List A
     all_segments no_segment = []
-    all_segments (and_segment (segment p v s u k f) ss) = q.at_segment p s u k f ++ all_in v ++ all_in s ++ all_segments ss
+    all_segments (and_segment (segment p v s u k f) ss) =
+        q.at_segment p s u k f ++ all_in v ++ all_in s ++ all_segments ss
 
     -- a definition's right side is an expression too
     pub all_defs : Defs → List A
@@ -142,7 +145,8 @@ module _ {A : Type 0} (q : Asked A) where
 
     pub all_clauses : Clauses → List A
     all_clauses no_clause = []
-    all_clauses (and_clause (clause p qs g e) cs) = q.at_clause p ++ all_patterns qs ++ all_in g ++ all_in e ++ all_clauses cs
+    all_clauses (and_clause (clause p qs g e) cs) =
+        q.at_clause p ++ all_patterns qs ++ all_in g ++ all_in e ++ all_clauses cs
 
     pub all_pattern : Pattern → List A
     all_pattern (any p x) = q.at_pattern (any p x)

@@ -1,14 +1,19 @@
 //! The syntax tree of a Core Erlang module and its reading as a plain tree; names, degrees and limits are judged
 //! elsewhere.
 //!
-//! A body that always answers want of memory meets the contract of every `copy`: a test copies each with ample memory.
+//! `let <X> = 'a' in X` at 1:1 is an `Expr` with its place and the form `Let`; its reading, which every contract and
+//! meaning speaks of, is `let_in` with the place, the binder, the literal and the variable.
+//!
+//! Sound, since the reading is one fold, so each value stands for one tree. Functions are known by their sites:
+//! `sites_are_counted` says that the definitions come first, and that as many stand in an expression as are counted.
+//!
+//! Whether a name means something is not asked here; a tree that no text has is a tree too, and `IsSourceTree` says
+//! which ones texts have.
 #![tactic(auto)]
 
 pub mod build;
 mod laws;
 mod module;
-#[cfg(test)]
-mod tests;
 mod tree;
 
 pub use laws::{parts_have_no_more_nodes, sites_are_counted};

@@ -37,18 +37,23 @@ digit_small c h = grind (arith, nat_tests)
 -- one digit more
 digit_more : (n d p v : ℕ) → d ≤ 9 → v < suc (n * 10 + d) * p → v < suc n * (10 * p)
 digit_more n d p v h below =
-    let most : suc (n * 10 + d) * p ≤ suc n * 10 * p = mul-le (suc (n * 10 + d)) p (suc n * 10) p (omega arith) (omega arith) in
+    let most : suc (n * 10 + d) * p ≤ suc n * 10 * p =
+    mul-le (suc (n * 10 + d)) p (suc n * 10) p (omega arith) (omega arith) in
     omega (arith, most, mul_assoc (suc n) 10 p)
 
 positive : (n k : ℕ) → n < suc n * 10 ^ k
-positive n k = let most : suc n * 1 ≤ suc n * 10 ^ k = mul-le (suc n) 1 (suc n) (10 ^ k) (omega arith) (one-le-pow k 10 (omega arith)) in omega arith
+positive n k = let most : suc n * 1 ≤ suc n * 10 ^ k =
+    mul-le (suc n) 1 (suc n) (10 ^ k) (omega arith) (one-le-pow k 10 (omega arith)) in omega arith
 
 -- at most k digits behind digits that write n
-value_below : (xs : List ℕ) (n k : ℕ) → length (take_while is_digit xs) ≤ k → value_from 10 n (take_while is_digit xs) < suc n * 10 ^ k
+value_below : (xs : List ℕ) (n k : ℕ) → length (take_while is_digit xs) ≤ k
+    → value_from 10 n (take_while is_digit xs) < suc n * 10 ^ k
 value_below [] n k h = positive n k
-value_below (x ∷ xs) n k h = by (is_digit x) refl k (value_below xs) (subst (λ ds. length ds ≤ k) (take_while-cons is_digit x xs) h)
+value_below (x ∷ xs) n k h =
+    by (is_digit x) refl k (value_below xs) (subst (λ ds. length ds ≤ k) (take_while-cons is_digit x xs) h)
   where
-    by : (b : Bool) → is_digit x ≡ b → (k : ℕ) → ((m j : ℕ) → length (take_while is_digit xs) ≤ j → value_from 10 m (take_while is_digit xs) < suc m * 10 ^ j)
+    by : (b : Bool) → is_digit x ≡ b → (k : ℕ)
+        → ((m j : ℕ) → length (take_while is_digit xs) ≤ j → value_from 10 m (take_while is_digit xs) < suc m * 10 ^ j)
         → length (if b then x ∷ take_while is_digit xs else []) ≤ k
         → value_from 10 n (take_while is_digit (x ∷ xs)) < suc n * 10 ^ k
     by true e zero below l = absurd (omega arith)
@@ -56,12 +61,14 @@ value_below (x ∷ xs) n k h = by (is_digit x) refl k (value_below xs) (subst (�
         let front : take_while is_digit (x ∷ xs) ≡ x ∷ take_while is_digit xs =
         take_while-cons is_digit x xs ∙ ap (λ b. if b then x ∷ take_while is_digit xs else []) e in
         let later = below (n * 10 + digit_value x) k (omega arith) in
-        let more = digit_more n (digit_value x) (10 ^ k) (value_from 10 (n * 10 + digit_value x) (take_while is_digit xs)) (digit_small x e) later in
+        let more = digit_more n (digit_value x) (10 ^ k)
+        (value_from 10 (n * 10 + digit_value x) (take_while is_digit xs)) (digit_small x e) later in
         let power : 10 ^ suc k ≡ 10 * 10 ^ k = pow-suc 10 k ∙ mul_comm (10 ^ k) 10 in
         subst (λ ds. value_from 10 n ds < suc n * 10 ^ suc k) (sym front)
         (subst (λ p. value_from 10 (n * 10 + digit_value x) (take_while is_digit xs) < suc n * p) (sym power) more)
     by false e k below l =
-        let front : take_while is_digit (x ∷ xs) ≡ [] = take_while-cons is_digit x xs ∙ ap (λ b. if b then x ∷ take_while is_digit xs else []) e in
+        let front : take_while is_digit (x ∷ xs) ≡ [] =
+        take_while-cons is_digit x xs ∙ ap (λ b. if b then x ∷ take_while is_digit xs else []) e in
         subst (λ ds. value_from 10 n ds < suc n * 10 ^ k) (sym front) (positive n k)
 
 -- ---- bytes
@@ -72,11 +79,13 @@ bytes_no_fewer (c ∷ cs) = let one = (len_utf8_bounds c).0 in let more = bytes_
 
 -- ---- numbers
 
-parts_of : (b signed : Bool) (w z : ℤ) (k : ℕ) → (if b then Number signed w else Wide k) ≡ Number false z → (signed ≡ false) × (w ≡ z)
+parts_of : (b signed : Bool) (w z : ℤ) (k : ℕ) → (if b then Number signed w else Wide k) ≡ Number false z
+    → (signed ≡ false) × (w ≡ z)
 parts_of true signed w z k e = (cc, cc)
 parts_of false signed w z k e = absurd cc
 
-integer_small : (negative signed : Bool) (digits : List ℕ) (z : ℤ) → (negative ≡ true → signed ≡ true) → value_from 10 0 digits < 10 ^ 9
+integer_small : (negative signed : Bool) (digits : List ℕ) (z : ℤ) → (negative ≡ true → signed ≡ true)
+    → value_from 10 0 digits < 10 ^ 9
     → integer_of negative signed digits ≡ Number false z → IsSmall z
 unfolding integer_of
 integer_small true signed digits z s h e =
@@ -104,12 +113,14 @@ number_small cs =
     let signs : ℕ = sign_len cs in
     let digits : List ℕ = take_while is_digit (drop signs cs) in
     let whole : ℕ = signs + length digits in
-    let fits : whole ≤ length cs = omega (arith, sign_fits cs, run_fits is_digit (drop signs cs), length-drop signs cs) in
+    let fits : whole ≤ length cs =
+    omega (arith, sign_fits cs, run_fits is_digit (drop signs cs), length-drop signs cs) in
     either (SmallIn cs) (eqb (fraction_len (drop whole cs)) 0) _ _
     (λ _ z e short.
     let few : length digits ≤ 9 = omega (arith, length-take-le whole cs fits, bytes_no_fewer (take whole cs)) in
     let kind : integer_of (first_is (λ c. eqb c minus) cs) (eqb signs 1) digits ≡ Number false z = cc in
-    integer_small (first_is (λ c. eqb c minus) cs) (eqb signs 1) digits z (minus_signs cs) (value_below (drop signs cs) 0 9 few) kind)
+    integer_small (first_is (λ c. eqb c minus) cs) (eqb signs 1) digits z (minus_signs cs)
+    (value_below (drop signs cs) 0 9 few) kind)
     (λ _ z e short. absurd cc)
 
 -- ---- other lexemes are none
@@ -122,10 +133,11 @@ small_none cs l none z e short = absurd (none z e)
 
 word_none : (cs : List ℕ) → NoNumber (word_at cs)
 unfolding word_at
-word_none cs = elim (listed_as words (take (name_len cs) cs)) as (λ o. NoNumber (elim o [ None ↦ bad | Some word ↦ of_kind (Word word) (name_len cs) ])) [
-  | None ↦ λ z e. absurd cc
-  | Some word ↦ λ z e. absurd cc
-]
+word_none cs = elim (listed_as words (take (name_len cs) cs)) as (λ o. NoNumber
+    (elim o [ None ↦ bad | Some word ↦ of_kind (Word word) (name_len cs) ])) [
+      | None ↦ λ z e. absurd cc
+      | Some word ↦ λ z e. absurd cc
+    ]
 
 variable_none : (cs : List ℕ) → NoNumber (variable_at cs)
 unfolding variable_at
@@ -191,7 +203,8 @@ small_before : (kind : Option TokenKind) (place : Place) (from to : ℕ) (later 
     → All IsSmallIfShort (before kind place from to later)
 small_before None place from to later small all = all
 small_before (Some kind) place from to later small all =
-    All-cons IsSmallIfShort (token kind place from to) (unless_bad kind later) (λ z e short. small z (ap (λ k. Some k) e) short)
+    All-cons IsSmallIfShort (token kind place from to) (unless_bad kind later)
+    (λ z e short. small z (ap (λ k. Some k) e) short)
     (either (All IsSmallIfShort) (is_bad kind) [] later (λ _. All-nil IsSmallIfShort) (λ _. all))
 
 small_tokens : (cs : List ℕ) (skip : ℕ) (place : Place) (byte : ℕ) → All IsSmallIfShort (tokens_from cs skip place byte)

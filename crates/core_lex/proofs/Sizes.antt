@@ -23,10 +23,11 @@ name_fits p cs h = omega (arith, run_fits p (drop 1 cs), length-drop 1 cs)
 
 word_within : (cs : List ℕ) → 0 < length cs → IsWithin (length cs) (word_at cs)
 unfolding word_at
-word_within cs h = elim (listed_as words (take (name_len cs) cs)) as (λ o. IsWithin (length cs) (elim o [ None ↦ bad | Some word ↦ of_kind (Word word) (name_len cs) ])) [
-  | None ↦ bad_within (length cs) h
-  | Some word ↦ record { positive = omega arith; fits = name_fits is_name_char cs h }
-]
+word_within cs h = elim (listed_as words (take (name_len cs) cs)) as (λ o. IsWithin (length cs)
+    (elim o [ None ↦ bad | Some word ↦ of_kind (Word word) (name_len cs) ])) [
+      | None ↦ bad_within (length cs) h
+      | Some word ↦ record { positive = omega arith; fits = name_fits is_name_char cs h }
+    ]
 
 variable_within : (cs : List ℕ) → 0 < length cs → IsWithin (length cs) (variable_at cs)
 unfolding variable_at
@@ -41,20 +42,25 @@ abbrev pub AllOf : {A : Type 0} → ℕ → List (List ℕ × A) → Type 0
 AllOf n [] = Unit {0}
 AllOf n (t ∷ ts) = (length t.0 ≡ n) × AllOf n ts
 
-listed_by : {A : Type 0} (n : ℕ) (s t : List ℕ) (x y : A) (b : Bool) (later : Option A) → bytes_eq s t ≡ b → length t ≡ n
+listed_by : {A : Type 0} (n : ℕ) (s t : List ℕ) (x y : A) (b : Bool) (later : Option A)
+    → bytes_eq s t ≡ b → length t ≡ n
     → (later ≡ Some x → length s ≡ n) → (if b then Some y else later) ≡ Some x → length s ≡ n
 listed_by n s t x y true later f size rest g = let same : s ≡ t = same_text s t (sym f) in ap length same ∙ size
 listed_by n s t x y false later f size rest g = rest g
 
-length_listed : {A : Type 0} (n : ℕ) (table : List (List ℕ × A)) (s : List ℕ) (x : A) → AllOf n table → listed_as table s ≡ Some x → length s ≡ n
+length_listed : {A : Type 0} (n : ℕ) (table : List (List ℕ × A)) (s : List ℕ) (x : A) → AllOf n table
+    → listed_as table s ≡ Some x → length s ≡ n
 length_listed n [] s x all e = absurd cc
-length_listed n (t ∷ ts) s x all e = listed_by n s t.0 x t.1 (bytes_eq s t.0) (listed_as ts s) refl all.0 (length_listed n ts s x all.1) e
+length_listed n (t ∷ ts) s x all e =
+    listed_by n s t.0 x t.1 (bytes_eq s t.0) (listed_as ts s) refl all.0 (length_listed n ts s x all.1) e
 
 pub long_length : (s : List ℕ) (x : Symbols.Symbol) → listed_as long_symbols s ≡ Some x → length s ≡ 2
-long_length s x e = length_listed 2 long_symbols s x (refl, (refl, (refl, (refl, (refl, (refl, (refl, (refl, (refl, tt))))))))) e
+long_length s x e = length_listed 2 long_symbols s x
+    (refl, (refl, (refl, (refl, (refl, (refl, (refl, (refl, (refl, tt))))))))) e
 
 pub short_length : (s : List ℕ) (x : Symbols.Symbol) → listed_as short_symbols s ≡ Some x → length s ≡ 1
-short_length s x e = length_listed 1 short_symbols s x (refl, (refl, (refl, (refl, (refl, (refl, (refl, (refl, (refl, (refl, (refl, (refl, (refl, tt))))))))))))) e
+short_length s x e = length_listed 1 short_symbols s x
+    (refl, (refl, (refl, (refl, (refl, (refl, (refl, (refl, (refl, (refl, (refl, (refl, (refl, tt))))))))))))) e
 
 long_within : (cs : List ℕ) (otherwise : Lexeme) (o : Option Symbols.Symbol) → listed_as long_symbols (take 2 cs) ≡ o
     → IsWithin (length cs) otherwise → IsWithin (length cs) (symbol_of o 2 otherwise)
@@ -68,7 +74,8 @@ short_within cs (Some x) h = record { positive = omega arith; fits = omega arith
 
 symbol_within : (cs : List ℕ) → 0 < length cs → IsWithin (length cs) (symbol_at cs)
 unfolding symbol_at
-symbol_within cs h = long_within cs _ (listed_as long_symbols (take 2 cs)) refl (short_within cs (listed_as short_symbols (take 1 cs)) h)
+symbol_within cs h = long_within cs _ (listed_as long_symbols (take 2 cs)) refl
+    (short_within cs (listed_as short_symbols (take 1 cs)) h)
 
 -- ---- numbers
 
@@ -81,7 +88,8 @@ exponent_fits cs =
     let signs : ℕ = sign_len (drop 1 cs) in
     let digits : ℕ = length (take_while is_digit (drop (1 + signs) cs)) in
     either (λ n. n ≤ length cs) (first_is is_exponent_mark cs && nat_le 1 digits) (1 + signs + digits) 0
-    (λ e. let some : 1 ≤ digits = grind (arith, nat_tests, second_true (first_is is_exponent_mark cs) (nat_le 1 digits) e) in
+    (λ e. let some : 1 ≤ digits = grind
+    (arith, nat_tests, second_true (first_is is_exponent_mark cs) (nat_le 1 digits) e) in
     omega (arith, run_fits is_digit (drop (1 + signs) cs), length-drop (1 + signs) cs))
     (λ _. omega arith)
 
@@ -89,9 +97,17 @@ fraction_fits : (cs : List ℕ) → fraction_len cs ≤ length cs
 unfolding fraction_len
 fraction_fits cs =
     let digits : ℕ = length (take_while is_digit (drop 1 cs)) in
-    either (λ n. n ≤ length cs) (first_is (λ c. eqb c 46) cs && nat_le 1 digits) (1 + digits + exponent_len (drop (1 + digits) cs)) 0
-    (λ e. let some : 1 ≤ digits = grind (arith, nat_tests, second_true (first_is (λ c. eqb c 46) cs) (nat_le 1 digits) e) in
-    omega (arith, run_fits is_digit (drop 1 cs), length-drop 1 cs, exponent_fits (drop (1 + digits) cs), length-drop (1 + digits) cs))
+    either (λ n. n ≤ length cs) (first_is (λ c. eqb c 46) cs && nat_le 1 digits)
+    (1 + digits + exponent_len (drop (1 + digits) cs)) 0
+    (λ e. let some : 1 ≤ digits = grind
+    (arith, nat_tests, second_true (first_is (λ c. eqb c 46) cs) (nat_le 1 digits) e) in
+    omega (
+      arith,
+      run_fits is_digit (drop 1 cs),
+      length-drop 1 cs,
+      exponent_fits (drop (1 + digits) cs),
+      length-drop (1 + digits) cs,
+    ))
     (λ _. omega arith)
 
 number_within : (cs : List ℕ) → begins_number cs ≡ true → IsWithin (length cs) (number_at cs)
@@ -100,12 +116,17 @@ number_within cs e =
     let signs : ℕ = sign_len cs in
     let digits : ℕ = length (take_while is_digit (drop signs cs)) in
     let some : 0 < digits = run_begins is_digit (drop signs cs) e in
-    let fits : digits + signs ≤ length cs = omega (arith, sign_fits cs, run_fits is_digit (drop signs cs), length-drop signs cs) in
+    let fits : digits + signs ≤ length cs =
+    omega (arith, sign_fits cs, run_fits is_digit (drop signs cs), length-drop signs cs) in
     either (IsWithin (length cs)) (eqb (fraction_len (drop (signs + digits) cs)) 0) _ _
     (λ _. record { positive = omega arith; fits = omega arith })
-    (λ _. record { positive = omega arith; fits = omega (arith, fraction_fits (drop (signs + digits) cs), length-drop (signs + digits) cs) })
+    (λ _. record {
+      positive = omega arith;
+      fits = omega (arith, fraction_fits (drop (signs + digits) cs), length-drop (signs + digits) cs);
+    })
 
-lexeme_fits : (n : ℕ) (kind : List ℕ → TokenKind) (r : Option (List ℕ × ℕ)) → TextFits n r → IsWithin (suc n) (quoted_lexeme kind r)
+lexeme_fits : (n : ℕ) (kind : List ℕ → TokenKind) (r : Option (List ℕ × ℕ)) → TextFits n r
+    → IsWithin (suc n) (quoted_lexeme kind r)
 lexeme_fits n kind None h = bad_within (suc n) (omega arith)
 lexeme_fits n kind (Some text) h = record { positive = omega arith; fits = omega arith }
 

@@ -1,5 +1,5 @@
--- The tokens of a text, given as its characters (Core Erlang 1.0.3, lexical definitions; the word list, symbols of maps and
--- characters as OTP 25 prints them). The longest token is taken.
+-- The tokens of a text, given as its characters (Core Erlang 1.0.3, lexical definitions; the word list, symbols of maps
+-- and characters as OTP 25 prints them). The longest token is taken.
 use Rattle.std.specs.Prelude.{◌≡◌, ℕ, zero, suc, ◌+◌, ◌-◌, ◌^◌, ◌==◌, Bool, true, false, ◌&&◌, List, [], ◌∷◌, length, take, drop, nat_le, pos, neg_ℤ, bytes_eq, codes, if◌then◌else◌, Option, Some, None, take_while}
 use Rattle.std.specs.Char.{len_utf8}
 use Rattle.erl_base.specs.Ascii.{percent, single_quote, double_quote, dollar, minus, point}
@@ -35,23 +35,25 @@ bad = of_kind Bad 1
 abbrev pub words : List (List ℕ × Words.Word)
 words =
     (codes "after", W.After) ∷ (codes "apply", W.Apply) ∷ (codes "attributes", W.Attributes) ∷ (codes "call", W.Call)
-    ∷ (codes "case", W.Case) ∷ (codes "catch", W.Catch) ∷ (codes "do", W.Do) ∷ (codes "end", W.End) ∷ (codes "fun", W.Fun)
-    ∷ (codes "in", W.In) ∷ (codes "let", W.Let) ∷ (codes "letrec", W.Letrec) ∷ (codes "module", W.Module) ∷ (codes "of", W.Of)
-    ∷ (codes "primop", W.Primop) ∷ (codes "receive", W.Receive) ∷ (codes "try", W.Try) ∷ (codes "when", W.When) ∷ []
+    ∷ (codes "case", W.Case) ∷ (codes "catch", W.Catch) ∷ (codes "do", W.Do) ∷ (codes "end", W.End)
+    ∷ (codes "fun", W.Fun) ∷ (codes "in", W.In) ∷ (codes "let", W.Let) ∷ (codes "letrec", W.Letrec)
+    ∷ (codes "module", W.Module) ∷ (codes "of", W.Of) ∷ (codes "primop", W.Primop) ∷ (codes "receive", W.Receive)
+    ∷ (codes "try", W.Try) ∷ (codes "when", W.When) ∷ []
 
 -- the symbols of two characters
 abbrev pub long_symbols : List (List ℕ × Symbols.Symbol)
 long_symbols =
-    (codes "->", S.Arrow) ∷ (codes "-|", S.AnnotationBar) ∷ (codes "=>", S.Association) ∷ (codes ":=", S.ExactAssociation)
-    ∷ (codes "#{", S.OpenBinary) ∷ (codes "}#", S.CloseBinary) ∷ (codes "#<", S.OpenSegment) ∷ (codes "~{", S.OpenMap)
-    ∷ (codes "}~", S.CloseMap) ∷ []
+    (codes "->", S.Arrow) ∷ (codes "-|", S.AnnotationBar) ∷ (codes "=>", S.Association)
+    ∷ (codes ":=", S.ExactAssociation) ∷ (codes "#{", S.OpenBinary) ∷ (codes "}#", S.CloseBinary)
+    ∷ (codes "#<", S.OpenSegment) ∷ (codes "~{", S.OpenMap) ∷ (codes "}~", S.CloseMap) ∷ []
 
 -- the symbols of one character
 abbrev pub short_symbols : List (List ℕ × Symbols.Symbol)
 short_symbols =
     (codes "(", S.OpenParen) ∷ (codes ")", S.CloseParen) ∷ (codes "{", S.OpenBrace) ∷ (codes "}", S.CloseBrace)
     ∷ (codes "[", S.OpenBracket) ∷ (codes "]", S.CloseBracket) ∷ (codes "<", S.OpenAngle) ∷ (codes ">", S.CloseAngle)
-    ∷ (codes "|", S.Bar) ∷ (codes ",", S.Comma) ∷ (codes "/", S.Slash) ∷ (codes ":", S.Colon) ∷ (codes "=", S.Equals) ∷ []
+    ∷ (codes "|", S.Bar) ∷ (codes ",", S.Comma) ∷ (codes "/", S.Slash) ∷ (codes ":", S.Colon)
+    ∷ (codes "=", S.Equals) ∷ []
 
 -- what a table lists the text as
 abbrev pub listed_as : {A : Type 0} → List (List ℕ × A) → List ℕ → Option A
@@ -64,7 +66,10 @@ name_len cs = 1 + length (take_while is_name_char (drop 1 cs))
 
 -- a word begins with a lower-case letter; one that is not listed is a bad token
 unfoldable pub word_at : List ℕ → Lexeme
-word_at cs = elim (listed_as words (take (name_len cs) cs)) [ None ↦ bad | Some word ↦ of_kind (Word word) (name_len cs) ]
+word_at cs = elim (listed_as words (take (name_len cs) cs)) [
+  | None ↦ bad
+  | Some word ↦ of_kind (Word word) (name_len cs)
+]
 
 -- a variable is all its name characters
 unfoldable pub variable_at : List ℕ → Lexeme
@@ -101,7 +106,8 @@ fraction_len cs =
     let digits = length (take_while is_digit (drop 1 cs)) in
     if first_is (λ c. c == point) cs && nat_le 1 digits then 1 + digits + exponent_len (drop (1 + digits) cs) else 0
 
--- an integer within 128 signed bits with its value and whether a sign was written, a wider one with the number of its digits
+-- an integer within 128 signed bits with its value and whether a sign was written, a wider one with the number of its
+-- digits
 unfoldable pub integer_of : (negative signed : Bool) (digits : List ℕ) → TokenKind
 integer_of negative signed digits =
     let n = value_from 10 0 digits in
@@ -127,6 +133,7 @@ quoted_lexeme kind (Some text) = of_kind (kind text.0) (1 + text.1)
 unfoldable pub atom_at : List ℕ → Lexeme
 atom_at cs = quoted_lexeme Atom (quoted_text single_quote (drop 1 cs) 0)
 
+-- a string between double quotes
 unfoldable pub string_at : List ℕ → Lexeme
 string_at cs = quoted_lexeme Letters (quoted_text double_quote (drop 1 cs) 0)
 
@@ -135,6 +142,7 @@ abbrev pub character_lexeme : Option (ℕ × ℕ) → Lexeme
 character_lexeme None = bad
 character_lexeme (Some c) = of_kind (Character c.0) (1 + c.1)
 
+-- a character behind `$`
 unfoldable pub character_at : List ℕ → Lexeme
 character_at cs = character_lexeme (quoted_char (drop 1 cs))
 
@@ -182,14 +190,16 @@ abbrev pub before : Option TokenKind → Place → (from to : ℕ) → List Toke
 before None place from to later = later
 before (Some kind) place from to later = token kind place from to ∷ unless_bad kind later
 
--- The tokens from a place and a byte on, up to End or the first bad one. The first `skip` characters belong to a lexeme that
--- was read. A token has the place of its first character and its range of bytes; the range of a bad one is its first character.
+-- The tokens from a place and a byte on, up to End or the first bad one. The first `skip` characters belong to a lexeme
+-- that was read. A token has the place of its first character and its range of bytes; the range of a bad one is its
+-- first character.
 abbrev pub tokens_from : List ℕ → (skip : ℕ) → Place → (byte : ℕ) → List Token
 tokens_from [] skip place byte = token End place byte byte ∷ []
 tokens_from (c ∷ cs) (suc skip) place byte = tokens_from cs skip (past c place) (byte + len_utf8 c)
 tokens_from (c ∷ cs) zero place byte =
     let here = lexeme_at (c ∷ cs) in
-    before here.kind place byte (byte + byte_len (take here.size (c ∷ cs))) (tokens_from cs (here.size - 1) (past c place) (byte + len_utf8 c))
+    before here.kind place byte (byte + byte_len (take here.size (c ∷ cs)))
+    (tokens_from cs (here.size - 1) (past c place) (byte + len_utf8 c))
 
 -- the tokens of a text
 unfoldable pub tokens : List ℕ → List Token

@@ -13,14 +13,16 @@ pub fn lexemes_cut_the_text()
     ensures within { (cs : List ℕ) → 0 < length cs → IsWithin (length cs) (lexeme_at cs) }
     ensures cut { (cs : List ℕ) (place : Place) (byte : ℕ) → 0 < length cs →
         let n = (lexeme_at cs).size in let to = byte + byte_len (take n cs) in
-        tokens_from cs 0 place byte ≡ before (lexeme_at cs).kind place byte to (tokens_from (drop n cs) 0 (place_after (take n cs) place) to) }
+        tokens_from cs 0 place byte ≡ before (lexeme_at cs).kind place byte to
+        (tokens_from (drop n cs) 0 (place_after (take n cs) place) to) }
 {}
 
 /// The longest symbol is taken, and where none stands the token is bad.
 pub fn longest_symbol_is_taken()
     ensures longest { (cs s : List ℕ) (symbol : Symbols.Symbol) → IsLongestSymbol cs s symbol →
         symbol_at cs ≡ of_kind (Symbol symbol) (length s) }
-    ensures none { (cs : List ℕ) → ((s : List ℕ) (symbol : Symbols.Symbol) → Begins cs s symbol → ⊥) → symbol_at cs ≡ bad }
+    ensures none { (cs : List ℕ) → ((s : List ℕ) (symbol : Symbols.Symbol) → Begins cs s symbol → ⊥)
+        → symbol_at cs ≡ bad }
 {}
 
 /// An unsigned number of at most nine bytes is below 10^9.

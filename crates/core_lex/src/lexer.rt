@@ -68,6 +68,3 @@ pub fn lex(alloc: Global, pieces: &[&[u8]]) -> Result<Tokens, Fault>
     let characters = characters(alloc, pieces)?;
     Ok(scan(alloc, characters.as_slice())?)
 }
-
-#[cfg(test)]
-mod tests;

@@ -15,8 +15,8 @@ pub struct Token {
     pub to: u64,
 }
 
-/// What a token is, and what it means. The flag of a `Number` says whether a sign was written; it comes first, so that a token
-/// takes 64 bytes in place of 80. `Wide` is an integer outside 128 signed bits, with the number of its digits.
+/// What a token is, and what it means. The flag of a `Number` says whether a sign was written; it comes first, so that
+/// a token takes 64 bytes in place of 80. `Wide` is an integer outside 128 signed bits, with the number of its digits.
 #[derive(Debug, Drop)]
 pub enum TokenKind {
     Word(Word),
@@ -55,8 +55,8 @@ pub enum Word {
     When,
 }
 
-/// A symbol. The pairs of a map are written with `=>` where a key may be new and with `:=` where it must be there; `-|` stands
-/// before annotations, `#{` and `}#` round a binary, `#<` before a segment of one, `~{` and `}~` round a map.
+/// A symbol. The pairs of a map are written with `=>` where a key may be new and with `:=` where it must be there; `-|`
+/// stands before annotations, `#{` and `}#` round a binary, `#<` before a segment of one, `~{` and `}~` round a map.
 #[derive(Clone, Copy, Debug, PartialEq, Eq)]
 pub enum Symbol {
     Arrow,
@@ -83,8 +83,8 @@ pub enum Symbol {
     Equals,
 }
 
-/// What stands at the front of characters: the kind of the token, or `None` for a blank or a comment, and how many characters
-/// write it.
+/// What stands at the front of characters: the kind of the token, or `None` for a blank or a comment, and how many
+/// characters write it.
 #[derive(Debug, Drop)]
 pub struct Lexeme {
     pub kind: Option<TokenKind>,

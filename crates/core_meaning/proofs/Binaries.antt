@@ -52,7 +52,8 @@ negative_size = refl
 -- case B of <#{#<V>(N,1,'integer',['signed','big'])}#> -> V; <Y> -> 'no'
 abbrev sized : Module
 sized = program (codes "m") (def (codes "f") 2 (fun (codes "B" ∷ codes "N" ∷ []) (case (v (codes "B"))
-    (clause (bits_like (integer_like (any (codes "V")) (v (codes "N")) (list_term (atom (codes "signed") ∷ atom (codes "big") ∷ [])) ∷ []) ∷ []) yes (v (codes "V"))
+    (clause (bits_like (integer_like (any (codes "V")) (v (codes "N"))
+    (list_term (atom (codes "signed") ∷ atom (codes "big") ∷ [])) ∷ []) ∷ []) yes (v (codes "V"))
     ∷ clause (any (codes "Y") ∷ []) yes (a (codes "no")) ∷ []))) ∷ [])
 
 abbrev of_size : Term → Result
@@ -83,9 +84,11 @@ size_all_through_a_variable = refl
 abbrev own_size : Module
 own_size = program (codes "m") (def (codes "f") 2 (fun (codes "B" ∷ codes "N" ∷ []) (case (v (codes "B"))
     (clause (bits_like (integer_like (any (codes "N")) (v (codes "N")) unsigned_big
-    ∷ integer_like (any (codes "V")) (v (codes "N")) unsigned_big ∷ []) ∷ []) yes (tuple (v (codes "N") ∷ v (codes "V") ∷ [])) ∷ []))) ∷ [])
+    ∷ integer_like (any (codes "V")) (v (codes "N")) unsigned_big ∷ []) ∷ []) yes
+    (tuple (v (codes "N") ∷ v (codes "V") ∷ [])) ∷ []))) ∷ [])
 
-size_by_an_earlier_segment : evaluated own_size (key (codes "f") 2) (bits (bits_of 8 4 ++ bits_of 4 9) ∷ int 8 ∷ []) alone 10
+size_by_an_earlier_segment : evaluated own_size (key (codes "f") 2)
+    (bits (bits_of 8 4 ++ bits_of 4 9) ∷ int 8 ∷ []) alone 10
     ≡ run [] [] (gives (tuple_of (int 4 ∷ int 9 ∷ [])))
 unfolding evaluated
 size_by_an_earlier_segment = refl
@@ -93,13 +96,15 @@ size_by_an_earlier_segment = refl
 -- A loop over a binary that hands its rest on.
 
 abbrev first_clause : Clause
-first_clause = clause (bits_like (integer_like (any (codes "V")) (i 8) unsigned_big ∷ rest_like (codes "R") ∷ []) ∷ any (codes "S") ∷ [])
+first_clause = clause (bits_like (integer_like (any (codes "V")) (i 8) unsigned_big ∷ rest_like (codes "R") ∷ [])
+    ∷ any (codes "S") ∷ [])
     yes (local (codes "loop") (v (codes "R") ∷ erlang (codes "+") (v (codes "S") ∷ v (codes "V") ∷ []) ∷ []))
 
 abbrev summing : List Clause → Module
 summing more = program (codes "m")
     (def (codes "sum") 1 (fun (codes "B" ∷ []) (local (codes "loop") (v (codes "B") ∷ i 0 ∷ [])))
-    ∷ def (codes "loop") 2 (fun (codes "B" ∷ codes "A" ∷ []) (case (values (v (codes "B") ∷ v (codes "A") ∷ [])) (first_clause ∷ more))) ∷ [])
+    ∷ def (codes "loop") 2 (fun (codes "B" ∷ codes "A" ∷ [])
+    (case (values (v (codes "B") ∷ v (codes "A") ∷ [])) (first_clause ∷ more))) ∷ [])
 
 abbrev one_two_three : Term
 one_two_three = bits (bits_of 8 1 ++ bits_of 8 2 ++ bits_of 8 3)
@@ -117,7 +122,8 @@ of_loop n made end = record (run [] (entries n) end) { subs = made }
 abbrev ends_with : Name → Expr → List Clause
 ends_with x e = clause (any x ∷ any (codes "S") ∷ []) yes e ∷ []
 
-binary_loop_without_sub_binaries : sum (ends_with (codes "_0") (v (codes "S"))) one_two_three ≡ of_loop 4 0 (gives (int 6))
+binary_loop_without_sub_binaries : sum (ends_with (codes "_0") (v (codes "S"))) one_two_three
+    ≡ of_loop 4 0 (gives (int 6))
 unfolding evaluated
 binary_loop_without_sub_binaries = refl
 
@@ -131,7 +137,8 @@ used_tail_is_not_listed : sum (ends_with (codes "B2") (tuple (v (codes "S") ∷ 
 unfolding evaluated
 used_tail_is_not_listed = refl
 
-empty_binary_clause_keeps_listing : sum (clause (bits_like [] ∷ any (codes "S") ∷ []) yes (v (codes "S")) ∷ []) one_two_three ≡ of_loop 4 0 (gives (int 6))
+empty_binary_clause_keeps_listing : sum
+    (clause (bits_like [] ∷ any (codes "S") ∷ []) yes (v (codes "S")) ∷ []) one_two_three ≡ of_loop 4 0 (gives (int 6))
 unfolding evaluated
 empty_binary_clause_keeps_listing = refl
 

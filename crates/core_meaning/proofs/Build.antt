@@ -136,7 +136,15 @@ abbrev pub def : Name → ℕ → Expr → Def
 def f n e = C.def p0 (key f n) e
 
 abbrev pub program : Name → List Def → Module
-program m ds = record { name = m; exports = []; attributes = []; defs = defs ds; floats = None; wide = None; long = None }
+program m ds = record {
+  name = m;
+  exports = [];
+  attributes = [];
+  defs = defs ds;
+  floats = None;
+  wide = None;
+  long = None;
+}
 
 abbrev pub script : Values → List Reply → Script
 script mailbox replies = record { own = T.pid 1; mailbox = mailbox; replies = replies; choices = [] }

@@ -49,7 +49,8 @@ as_a_first_body = refl
 another_clause_is_true : marks (case m_is_r (if_true yes ∷ other yes ∷ [])) ≡ None
 another_clause_is_true = refl
 
-first_clause_has_a_guard : marks (case m_is_r (clause (known (atom (codes "true")) ∷ []) m_is_r yes ∷ other (a (codes "false")) ∷ [])) ≡ None
+first_clause_has_a_guard : marks
+    (case m_is_r (clause (known (atom (codes "true")) ∷ []) m_is_r yes ∷ other (a (codes "false")) ∷ [])) ≡ None
 first_clause_has_a_guard = refl
 
 as_the_only_value : marks (case (values (m_is_r ∷ [])) (if_true yes ∷ other (a (codes "false")) ∷ [])) ≡ None
@@ -72,12 +73,15 @@ true_where_it_raises = refl
 
 -- of two references the inner let's is taken, where each clause demands both
 innermost_let :
-    marked_with (clauses (clause (any (codes "M") ∷ []) (erlang (codes "and") (same (v (codes "M")) (v (codes "S")) ∷ m_is_r ∷ [])) (i 1) ∷ []))
+    marked_with (clauses (clause (any (codes "M") ∷ [])
+    (erlang (codes "and") (same (v (codes "M")) (v (codes "S")) ∷ m_is_r ∷ [])) (i 1) ∷ []))
     (variable (codes "S") 1 ∷ scope) (1 ∷ 0 ∷ []) ≡ Some 1
 innermost_let = refl
 
 -- each clause has to demand it, and one clause there has to be
-one_clause_does_not : marked_with (clauses (clause (any (codes "M") ∷ []) m_is_r (i 1) ∷ clause (any (codes "M") ∷ []) yes (i 1) ∷ [])) scope (0 ∷ []) ≡ None
+one_clause_does_not : marked_with
+    (clauses (clause (any (codes "M") ∷ []) m_is_r (i 1) ∷ clause (any (codes "M") ∷ []) yes (i 1) ∷ [])) scope (0 ∷ [])
+    ≡ None
 one_clause_does_not = refl
 
 without_clauses : marked_with (clauses []) scope (0 ∷ []) ≡ None

@@ -33,12 +33,14 @@ call_of_own_export_is_a_request = refl
 -- a fun that is sent shows what it captures
 abbrev sending : Module
 sending = program (codes "snd") (def (codes "f") 2 (fun (codes "P" ∷ codes "X" ∷ [])
-    (C.do_then p0 (erlang (codes "!") (v (codes "P") ∷ fun (codes "Y" ∷ []) (tuple (v (codes "Y") ∷ v (codes "X") ∷ [])) ∷ [])) (a (codes "ok")))) ∷ [])
+    (C.do_then p0 (erlang (codes "!")
+    (v (codes "P") ∷ fun (codes "Y" ∷ []) (tuple (v (codes "Y") ∷ v (codes "X") ∷ [])) ∷ [])) (a (codes "ok")))) ∷ [])
 
 abbrev sent_fun : Term
 sent_fun = T.fun (codes "snd") 1 1 (terms (int 7 ∷ []))
 
-sent_fun_shows_captures : evaluated sending (key (codes "f") 2) (T.pid 2 ∷ int 7 ∷ []) (script [] (returns [] (atom (codes "ok")) ∷ [])) 10
+sent_fun_shows_captures : evaluated sending (key (codes "f") 2) (T.pid 2 ∷ int 7 ∷ [])
+    (script [] (returns [] (atom (codes "ok")) ∷ [])) 10
     ≡ run (asked (W.send (T.pid 2) sent_fun) (returns [] (atom (codes "ok"))) ∷ []) [] (gives (atom (codes "ok")))
 unfolding evaluated
 sent_fun_shows_captures = refl
@@ -55,12 +57,15 @@ unfolding evaluated
 capture_under_shadowing = refl
 
 -- two groups that name each other: the inner group's functions call the outer one's and the other way round
--- letrec 'g'/1 = fun (N) -> letrec 'h'/1 = fun (M) -> {apply 'g'/1 (0), Y, M} in case N of <0> -> X; <K> -> apply 'h'/1 (K)
--- in apply 'g'/1 (5)
+-- letrec 'g'/1 = fun (N) -> letrec 'h'/1 = fun (M) -> {apply 'g'/1 (0), Y, M} in case N of <0> -> X; <K> -> apply 'h'/1
+-- (K) in apply 'g'/1 (5)
 abbrev inner_group : Expr
-inner_group = letrec (def (codes "h") 1 (fun (codes "M" ∷ []) (tuple (local (codes "g") (i 0 ∷ []) ∷ v (codes "Y") ∷ v (codes "M") ∷ []))) ∷ [])
-    (C.case p0 (v (codes "N")) (C.and_clause (C.clause p0 (C.and_pattern (C.known p0 (int 0)) C.no_pattern) (a (codes "true")) (v (codes "X")))
-    (C.and_clause (C.clause p0 (C.and_pattern (C.any p0 (codes "K")) C.no_pattern) (a (codes "true")) (local (codes "h") (v (codes "K") ∷ []))) C.no_clause)))
+inner_group = letrec (def (codes "h") 1
+    (fun (codes "M" ∷ []) (tuple (local (codes "g") (i 0 ∷ []) ∷ v (codes "Y") ∷ v (codes "M") ∷ []))) ∷ [])
+    (C.case p0 (v (codes "N"))
+    (C.and_clause (C.clause p0 (C.and_pattern (C.known p0 (int 0)) C.no_pattern) (a (codes "true")) (v (codes "X")))
+    (C.and_clause (C.clause p0 (C.and_pattern (C.any p0 (codes "K")) C.no_pattern) (a (codes "true"))
+    (local (codes "h") (v (codes "K") ∷ []))) C.no_clause)))
 
 abbrev groups : Module
 groups = program (codes "m") (def (codes "f") 2 (fun (codes "X" ∷ codes "Y" ∷ [])
@@ -76,7 +81,8 @@ captured_names x = map (λ u. u.name) x.captures
 
 -- the outer group's captures are found with its own name standing for nothing: first Y, in the inner group, then X;
 -- the inner group's use of the outer one stands for both of them
-captures_of_groups : map captured_names (module_sites groups) ≡ [] ∷ (codes "Y" ∷ codes "X" ∷ []) ∷ (codes "Y" ∷ codes "X" ∷ []) ∷ []
+captures_of_groups : map captured_names (module_sites groups) ≡ [] ∷ (codes "Y" ∷ codes "X" ∷ [])
+    ∷ (codes "Y" ∷ codes "X" ∷ []) ∷ []
 captures_of_groups = refl
 
 -- a fun, a local call, and the bound on entries
@@ -102,7 +108,8 @@ local_then_tuple = program (codes "m") (def (codes "f") 1 (fun (codes "X" ∷ []
     ∷ def (codes "g") 1 (fun (codes "X" ∷ []) (call (codes "m") (codes "h") (v (codes "X") ∷ []))) ∷ [])
 
 local_call_then_tuple : evaluated local_then_tuple f1 (int 1 ∷ []) (script [] (returns [] (int 2) ∷ [])) 10
-    ≡ run (asked (W.call (codes "m") (codes "h") (int 1 ∷ [])) (returns [] (int 2)) ∷ []) (entry 1 false ∷ []) (gives (tuple_of (int 2 ∷ [])))
+    ≡ run (asked (W.call (codes "m") (codes "h") (int 1 ∷ [])) (returns [] (int 2)) ∷ []) (entry 1 false ∷ [])
+    (gives (tuple_of (int 2 ∷ [])))
 unfolding evaluated
 local_call_then_tuple = refl
 
@@ -110,7 +117,8 @@ local_call_then_tuple = refl
 abbrev applies : Module
 applies = program (codes "m") (def (codes "f") 1 (fun (codes "F" ∷ []) (apply (v (codes "F")) [])) ∷ [])
 
-apply_of_no_fun : evaluated applies f1 (int 5 ∷ []) alone 10 ≡ run [] [] (raises T.error (tuple_of (atom (codes "badfun") ∷ int 5 ∷ [])))
+apply_of_no_fun : evaluated applies f1 (int 5 ∷ []) alone 10
+    ≡ run [] [] (raises T.error (tuple_of (atom (codes "badfun") ∷ int 5 ∷ [])))
 unfolding evaluated
 apply_of_no_fun = refl
 
@@ -122,12 +130,14 @@ apply_with_wrong_arity : evaluated applies f1 (extern 1 ∷ []) alone 10
 unfolding evaluated
 apply_with_wrong_arity = refl
 
-apply_of_external_fun : evaluated applies f1 (extern 0 ∷ []) alone 10 ≡ run [] [] (waits (W.call (codes "m") (codes "f") []))
+apply_of_external_fun : evaluated applies f1 (extern 0 ∷ []) alone 10
+    ≡ run [] [] (waits (W.call (codes "m") (codes "f") []))
 unfolding evaluated
 apply_of_external_fun = refl
 
 -- a fun of this module whose captured terms are too many for its site is a request
 apply_of_unfitting_fun : let f = T.fun (codes "m") 0 0 (terms (int 1 ∷ int 2 ∷ [])) in
-    evaluated applies f1 (f ∷ []) alone 10 ≡ run [] [] (waits (W.call (codes "erlang") (codes "apply") (f ∷ list_term [] ∷ [])))
+    evaluated applies f1 (f ∷ []) alone 10
+    ≡ run [] [] (waits (W.call (codes "erlang") (codes "apply") (f ∷ list_term [] ∷ [])))
 unfolding evaluated
 apply_of_unfitting_fun = refl

@@ -39,7 +39,8 @@ still : {A : Type 0} (d : ℕ) (s : State) (o : Outcome A) → (IsSpent o → �
 still d s o h = record { low = omega arith; sum = refl; out = λ l z. absurd (h z); grows = ([], refl) }
 
 -- what is kept from a state is kept from an earlier one
-from_kept : {A B : Type 0} (d : ℕ) (s u : State) (o : Outcome A) (r : State × Outcome B) → Kept d s (u, o) → Kept d u r → Kept d s r
+from_kept : {A B : Type 0} (d : ℕ) (s u : State) (o : Outcome A) (r : State × Outcome B) → Kept d s (u, o)
+    → Kept d u r → Kept d s r
 from_kept d s u o r k h = record {
   low = omega (arith, k.low, h.low);
   sum = h.sum ∙ k.sum;
@@ -47,19 +48,23 @@ from_kept d s u o r k h = record {
   grows = grown_twice _ _ _ k.grows h.grows;
 }
 
-ends_kept : {A B : Type 0} (d : ℕ) (s u : State) (o : Outcome A) (f : A → M B) (g : Class → Term → M B) → Kept d s (u, o) → ((a : A) (v : State) → Kept d v (f a v)) → ((c : Class) (r : Term) (v : State) → Kept d v (g c r v)) → Kept d s (ends u o f g)
+ends_kept : {A B : Type 0} (d : ℕ) (s u : State) (o : Outcome A) (f : A → M B) (g : Class → Term → M B)
+    → Kept d s (u, o) → ((a : A) (v : State) → Kept d v (f a v))
+    → ((c : Class) (r : Term) (v : State) → Kept d v (g c r v)) → Kept d s (ends u o f g)
 ends_kept d s u (gives a) f g k h i = from_kept d s u (gives a) _ k (h a u)
 ends_kept d s u (raises c r) f g k h i = from_kept d s u (raises c r) _ k (i c r u)
 ends_kept d s u (waits q) f g k h i = record { low = k.low; sum = k.sum; out = λ l z. absurd z; grows = k.grows }
 ends_kept d s u spent f g k h i = record { low = k.low; sum = k.sum; out = k.out; grows = k.grows }
 
-after_kept : {A B : Type 0} (d : ℕ) (s u : State) (o : Outcome A) (f : A → M B) → Kept d s (u, o) → ((a : A) (v : State) → Kept d v (f a v)) → Kept d s (after u o f)
+after_kept : {A B : Type 0} (d : ℕ) (s u : State) (o : Outcome A) (f : A → M B) → Kept d s (u, o)
+    → ((a : A) (v : State) → Kept d v (f a v)) → Kept d s (after u o f)
 after_kept d s u (gives a) f k h = from_kept d s u (gives a) _ k (h a u)
 after_kept d s u (raises c r) f k h = record { low = k.low; sum = k.sum; out = λ l z. absurd z; grows = k.grows }
 after_kept d s u (waits q) f k h = record { low = k.low; sum = k.sum; out = λ l z. absurd z; grows = k.grows }
 after_kept d s u spent f k h = record { low = k.low; sum = k.sum; out = k.out; grows = k.grows }
 
-moved_kept : {A : Type 0} (d : ℕ) (f : State → State) → Quiet f → (m : M A) → ((s : State) → Kept d s (m s)) → (s : State) → Kept d s (m (f s))
+moved_kept : {A : Type 0} (d : ℕ) (f : State → State) → Quiet f → (m : M A) → ((s : State) → Kept d s (m s))
+    → (s : State) → Kept d s (m (f s))
 moved_kept d f q m h s =
     let k = h (f s) in
     let l = q.left s in
@@ -92,7 +97,8 @@ keeping d = record {
 }
 
 -- what is entered has one entry less
-left_kept : {A : Type 0} (d : ℕ) (m : M A) → ((s : State) → Kept d s (m s)) → (e : Entry) (k : ℕ) (s : State) → s.left ≡ k → Kept (suc d) s (entry_left k e m s)
+left_kept : {A : Type 0} (d : ℕ) (m : M A) → ((s : State) → Kept d s (m s)) → (e : Entry) (k : ℕ) (s : State)
+    → s.left ≡ k → Kept (suc d) s (entry_left k e m s)
 left_kept d m h e zero s p = record { low = omega arith; sum = refl; out = λ i g. p; grows = ([], refl) }
 left_kept d m h e (suc k) s p =
     let u = h (noting (entered e) (with_left k s)) in
@@ -105,18 +111,23 @@ left_kept d m h e (suc k) s p =
 
 pub deep_kept : (m : Known) (d n : ℕ) (vs : Values) (s : State) → Kept d s (deep m d n vs s)
 unfolding deep keeping
-deep_kept m zero n vs s = record { low = omega arith; sum = refl; out = λ l. absurd (omega (arith, l)); grows = ([], refl) }
+deep_kept m zero n vs s =
+    record { low = omega arith; sum = refl; out = λ l. absurd (omega (arith, l)); grows = ([], refl) }
 deep_kept m (suc d) n vs s =
-    (site_ok (keeping (suc d)) _ (deep m d) (λ e k ws. record { equal = refl; at = λ u. left_kept d (deep m d k ws) (deep_kept m d k ws) e u.left u refl }) (slice_get m.sites n) vs).at s
+    (site_ok (keeping (suc d)) _ (deep m d)
+    (λ e k ws. record { equal = refl; at = λ u. left_kept d (deep m d k ws) (deep_kept m d k ws) e u.left u refl })
+    (slice_get m.sites n) vs).at s
 
 pub entries_are_spent : EntriesAreSpent
 entries_are_spent m d f vs s = (deep_kept m d f vs s).sum
 
 -- a run notes at most as many entries as its bound, and that many where it is spent
-pub entries_within : (m : Known) (n f : ℕ) (vs : Values) (x : Script) → length (entries (deep m (suc n) f vs (start x n)).0.notes) ≤ n
+pub entries_within : (m : Known) (n f : ℕ) (vs : Values) (x : Script)
+    → length (entries (deep m (suc n) f vs (start x n)).0.notes) ≤ n
 entries_within m n f vs x = omega (arith, (deep_kept m (suc n) f vs (start x n)).sum)
 
-pub entries_spent : (m : Known) (n f : ℕ) (vs : Values) (x : Script) → (deep m (suc n) f vs (start x n)).1 ≡ spent → length (entries (deep m (suc n) f vs (start x n)).0.notes) ≡ n
+pub entries_spent : (m : Known) (n f : ℕ) (vs : Values) (x : Script) → (deep m (suc n) f vs (start x n)).1 ≡ spent
+    → length (entries (deep m (suc n) f vs (start x n)).0.notes) ≡ n
 entries_spent m n f vs x e =
     let k = deep_kept m (suc n) f vs (start x n) in
     omega (arith, k.sum, k.out (omega arith) (subst IsSpent (sym e) tt))

@@ -21,20 +21,24 @@ some_one {A} {x} {y} e =
 both_some : (a b : Option Values) (us ws : Values) → a ≡ Some us → b ≡ Some ws → both a b ≡ Some (us ++ ws)
 both_some a b us ws e h = λ i. both (e i) (h i)
 
-both_parts : (a b : Option Values) (ws : Values) → both a b ≡ Some ws → (us : Values) × (vs : Values) × (a ≡ Some us) × (b ≡ Some vs) × (us ++ vs ≡ ws)
+both_parts : (a b : Option Values) (ws : Values) → both a b ≡ Some ws → (us : Values) × (vs : Values) × (a ≡ Some us)
+    × (b ≡ Some vs) × (us ++ vs ≡ ws)
 both_parts None b ws e = absurd cc
 both_parts (Some us) None ws e = absurd cc
 both_parts (Some us) (Some vs) ws e = (us, vs, refl, refl, some_one e)
 
-also_part : (t : Term) (o : Option Values) (ws : Values) → also t o ≡ Some ws → (vs : Values) × (o ≡ Some vs) × (t ∷ vs ≡ ws)
+also_part : (t : Term) (o : Option Values) (ws : Values) → also t o ≡ Some ws → (vs : Values) × (o ≡ Some vs)
+    × (t ∷ vs ≡ ws)
 also_part t None ws e = absurd cc
 also_part t (Some vs) ws e = (vs, refl, some_one e)
 
-some_part : {A : Type 0} (o : Option A) (f : A → Option Values) (ws : Values) → if_there o f None ≡ Some ws → (a : A) × (o ≡ Some a) × (f a ≡ Some ws)
+some_part : {A : Type 0} (o : Option A) (f : A → Option Values) (ws : Values) → if_there o f None ≡ Some ws
+    → (a : A) × (o ≡ Some a) × (f a ≡ Some ws)
 some_part None f ws e = absurd cc
 some_part (Some a) f ws e = (a, refl, e)
 
-key_part : (ps : Pairs) (o : Option Term) (t : Term) → at_key ps o ≡ Some t → (k : Term) × (o ≡ Some k) × (value_at ps k ≡ Some t)
+key_part : (ps : Pairs) (o : Option Term) (t : Term) → at_key ps o ≡ Some t → (k : Term) × (o ≡ Some k)
+    × (value_at ps k ≡ Some t)
 key_part ps None t e = absurd cc
 key_part ps (Some k) t e = (k, refl, e)
 
@@ -44,20 +48,24 @@ test_part false ws e = absurd cc
 
 -- From the relation to the function.
 
-segs_give : {env : Name → Option Term} {ss : SegPatterns} {bs : List Bool} {ws : Values} → SegsMatch env ss bs ws → match_segs (segments_in ss) env bs ≡ Some ws
+segs_give : {env : Name → Option Term} {ss : SegPatterns} {bs : List Bool} {ws : Values} → SegsMatch env ss bs ws
+    → match_segs (segments_in ss) env bs ≡ Some ws
 segs_give none_left = refl
 segs_give {env} (seg_variable {p} {r} {x} {size} {unit} {flags} {kind} {ss} {bs} {ws} n e h) =
     let s = shape_of size unit kind flags in
     let t = segment_value s (take n bs) in
-    ap (λ o. if_there o (λ k. both (match_segment (any r x) (segment_value s (take k bs))) (match_segs (segments_in ss) (known_name (any r x) (segment_value s (take k bs)) env) (drop k bs))) None) e
+    ap (λ o. if_there o (λ k. both (match_segment (any r x) (segment_value s (take k bs)))
+    (match_segs (segments_in ss) (known_name (any r x) (segment_value s (take k bs)) env) (drop k bs))) None) e
     ∙ both_some (Some (t ∷ [])) _ (t ∷ []) ws refl (segs_give h)
 segs_give {env} (seg_literal {p} {r} {u} {size} {unit} {flags} {kind} {ss} {bs} {ws} n e t h) =
     let s = shape_of size unit kind flags in
-    ap (λ o. if_there o (λ k. both (match_segment (known r u) (segment_value s (take k bs))) (match_segs (segments_in ss) env (drop k bs))) None) e
+    ap (λ o. if_there o (λ k. both (match_segment (known r u) (segment_value s (take k bs)))
+    (match_segs (segments_in ss) env (drop k bs))) None) e
     ∙ both_some _ _ [] ws (ap (λ b. cond b (Some []) None) t) (segs_give h)
 
 mutual
-  pub give_matches : {env : Name → Option Term} {q : Pattern} {t : Term} {ws : Values} → Matches env q t ws → matches env q t ≡ Some ws
+  pub give_matches : {env : Name → Option Term} {q : Pattern} {t : Term} {ws : Values} → Matches env q t ws
+      → matches env q t ≡ Some ws
   give_matches variable = refl
   give_matches (aliased {t} h) = ap (also t) (give_matches h)
   give_matches (equal e) = ap (λ b. cond b (Some []) None) e
@@ -66,42 +74,53 @@ mutual
   give_matches (pairs h) = keys_give h
   give_matches (bits h) = segs_give h
 
-  cells_give : {env : Name → Option Term} {qs : Patterns} {q : Pattern} {t : Term} {ws : Values} → CellsMatch env qs q t ws → match_items env qs (λ r. matches env q r) t ≡ Some ws
+  cells_give : {env : Name → Option Term} {qs : Patterns} {q : Pattern} {t : Term} {ws : Values}
+      → CellsMatch env qs q t ws → match_items env qs (λ r. matches env q r) t ≡ Some ws
   cells_give (the_rest h) = give_matches h
   cells_give (a_cell h k) = both_some _ _ _ _ (give_matches h) (cells_give k)
 
-  pub all_give : {env : Name → Option Term} {qs : Patterns} {ts : Terms} {ws : Values} → AllMatch env qs ts ws → match_all env qs ts ≡ Some ws
+  pub all_give : {env : Name → Option Term} {qs : Patterns} {ts : Terms} {ws : Values} → AllMatch env qs ts ws
+      → match_all env qs ts ≡ Some ws
   all_give no_term = refl
   all_give (a_term h k) = both_some _ _ _ _ (give_matches h) (all_give k)
 
-  keys_give : {env : Name → Option Term} {ks : KeyPatterns} {ps : Pairs} {ws : Values} → KeysMatch env ks ps ws → match_keys env ks ps ≡ Some ws
+  keys_give : {env : Name → Option Term} {ks : KeyPatterns} {ps : Pairs} {ws : Values} → KeysMatch env ks ps ws
+      → match_keys env ks ps ≡ Some ws
   keys_give no_more = refl
   keys_give {env} (a_key {e} {q} {ks} {ps} {us} {ws} k t a b h i) =
-      both_some _ _ us ws (ap (λ o. if_there (at_key ps o) (λ u. matches env q u) None) a ∙ ap (λ o. if_there o (λ u. matches env q u) None) b ∙ give_matches h) (keys_give i)
+      both_some _ _ us ws (ap (λ o. if_there (at_key ps o) (λ u. matches env q u) None) a
+      ∙ ap (λ o. if_there o (λ u. matches env q u) None) b ∙ give_matches h) (keys_give i)
 
 -- From the function to the relation.
 
-both_rest : (us : Values) (b : Option Values) (ws : Values) → both (Some us) b ≡ Some ws → (vs : Values) × (b ≡ Some vs) × (us ++ vs ≡ ws)
+both_rest : (us : Values) (b : Option Values) (ws : Values) → both (Some us) b ≡ Some ws → (vs : Values) × (b ≡ Some vs)
+    × (us ++ vs ≡ ws)
 both_rest us None ws e = absurd cc
 both_rest us (Some vs) ws e = (vs, refl, some_one e)
 
-from_segs : (ss : SegPatterns) (env : Name → Option Term) (bs : List Bool) (ws : Values) → match_segs (segments_in ss) env bs ≡ Some ws → SegsMatch env ss bs ws
+from_segs : (ss : SegPatterns) (env : Name → Option Term) (bs : List Bool) (ws : Values)
+    → match_segs (segments_in ss) env bs ≡ Some ws → SegsMatch env ss bs ws
 from_segs no_seg env [] ws e = subst (λ v. SegsMatch env no_seg [] v) (some_one e) none_left
 from_segs no_seg env (b ∷ bs) ws e = absurd cc
 from_segs (and_seg (seg_pattern p (any r x) size unit kind flags) ss) env bs ws e =
     let s = shape_of size unit kind flags in
-    let f : ℕ → Option Values = λ n. both (Some (segment_value s (take n bs) ∷ [])) (match_segs (segments_in ss) (known_name (any r x) (segment_value s (take n bs)) env) (drop n bs)) in
+    let f : ℕ → Option Values = λ n. both (Some (segment_value s (take n bs) ∷ []))
+    (match_segs (segments_in ss) (known_name (any r x) (segment_value s (take n bs)) env) (drop n bs)) in
     let (n, a, g) = some_part (taken_size s (key_value env size) (length bs)) f ws e in
-    let (vs, b, c) = both_rest (segment_value s (take n bs) ∷ []) (match_segs (segments_in ss) (known_name (any r x) (segment_value s (take n bs)) env) (drop n bs)) ws g in
+    let (vs, b, c) = both_rest (segment_value s (take n bs) ∷ [])
+    (match_segs (segments_in ss) (known_name (any r x) (segment_value s (take n bs)) env) (drop n bs)) ws g in
     subst (λ v. SegsMatch env (and_seg (seg_pattern p (any r x) size unit kind flags) ss) bs v) c
     (seg_variable n a (from_segs ss (known_name (any r x) (segment_value s (take n bs)) env) (drop n bs) vs b))
 from_segs (and_seg (seg_pattern p (known r u) size unit kind flags) ss) env bs ws e =
     let s = shape_of size unit kind flags in
-    let f : ℕ → Option Values = λ n. both (cond (same_term u (segment_value s (take n bs))) (Some []) None) (match_segs (segments_in ss) env (drop n bs)) in
+    let f : ℕ → Option Values = λ n. both (cond (same_term u (segment_value s (take n bs))) (Some []) None)
+    (match_segs (segments_in ss) env (drop n bs)) in
     let (n, a, g) = some_part (taken_size s (key_value env size) (length bs)) f ws e in
-    let (us, vs, t, b, c) = both_parts (cond (same_term u (segment_value s (take n bs))) (Some []) None) (match_segs (segments_in ss) env (drop n bs)) ws g in
+    let (us, vs, t, b, c) = both_parts (cond (same_term u (segment_value s (take n bs))) (Some []) None)
+    (match_segs (segments_in ss) env (drop n bs)) ws g in
     let (y, z) = test_part (same_term u (segment_value s (take n bs))) us t in
-    subst (λ v. SegsMatch env (and_seg (seg_pattern p (known r u) size unit kind flags) ss) bs v) (ap (λ v. v ++ vs) z ∙ c)
+    subst (λ v. SegsMatch env (and_seg (seg_pattern p (known r u) size unit kind flags) ss) bs v)
+    (ap (λ v. v ++ vs) z ∙ c)
     (seg_literal n a y (from_segs ss env (drop n bs) vs b))
 from_segs (and_seg (seg_pattern p q size unit kind flags) ss) env bs ws e =
     let s = shape_of size unit kind flags in
@@ -127,11 +146,14 @@ module _ (env : Name → Option Term) where
     from_matches (bits_like p ss) (T.bits bs) ws e = bits (from_segs ss env bs ws e)
     from_matches (bits_like p ss) _ ws e = absurd cc
 
-    from_cells : (qs : Patterns) (q : Pattern) → ((u : Term) (vs : Values) → matches env q u ≡ Some vs → Matches env q u vs) → (t : Term) (ws : Values) → match_items env qs (λ r. matches env q r) t ≡ Some ws → CellsMatch env qs q t ws
+    from_cells : (qs : Patterns) (q : Pattern)
+        → ((u : Term) (vs : Values) → matches env q u ≡ Some vs → Matches env q u vs) → (t : Term) (ws : Values)
+        → match_items env qs (λ r. matches env q r) t ≡ Some ws → CellsMatch env qs q t ws
     from_cells no_pattern q h t ws e = the_rest (h t ws e)
     from_cells (and_pattern r qs) q h (T.cons x y) ws e =
         let (us, vs, a, b, c) = both_parts (matches env r x) (match_items env qs (λ r. matches env q r) y) ws e in
-        subst (λ v. CellsMatch env (and_pattern r qs) q (T.cons x y) v) c (a_cell (from_matches r x us a) (from_cells qs q h y vs b))
+        subst (λ v. CellsMatch env (and_pattern r qs) q (T.cons x y) v) c
+        (a_cell (from_matches r x us a) (from_cells qs q h y vs b))
     from_cells (and_pattern r qs) q h _ ws e = absurd cc
 
     pub from_all : (qs : Patterns) (ts : Terms) (ws : Values) → match_all env qs ts ≡ Some ws → AllMatch env qs ts ws
@@ -140,18 +162,23 @@ module _ (env : Name → Option Term) where
     from_all (and_pattern q qs) none ws e = absurd cc
     from_all (and_pattern q qs) (more t ts) ws e =
         let (us, vs, a, b, c) = both_parts (matches env q t) (match_all env qs ts) ws e in
-        subst (λ v. AllMatch env (and_pattern q qs) (more t ts) v) c (a_term (from_matches q t us a) (from_all qs ts vs b))
+        subst (λ v. AllMatch env (and_pattern q qs) (more t ts) v) c
+        (a_term (from_matches q t us a) (from_all qs ts vs b))
 
     from_keys : (ks : KeyPatterns) (ps : Pairs) (ws : Values) → match_keys env ks ps ≡ Some ws → KeysMatch env ks ps ws
     from_keys no_key ps ws e = subst (λ v. KeysMatch env no_key ps v) (some_one e) no_more
     from_keys (and_key (key_pattern k q) ks) ps ws e =
-        let (us, vs, a, b, c) = both_parts (if_there (at_key ps (key_value env k)) (λ t. matches env q t) None) (match_keys env ks ps) ws e in
+        let (us, vs, a, b, c) = both_parts (if_there (at_key ps (key_value env k)) (λ t. matches env q t) None)
+        (match_keys env ks ps) ws e in
         let (t, f, g) = some_part (at_key ps (key_value env k)) (λ t. matches env q t) us a in
         let (key, i, j) = key_part ps (key_value env k) t f in
-        subst (λ v. KeysMatch env (and_key (key_pattern k q) ks) ps v) c (a_key key t i j (from_matches q t us g) (from_keys ks ps vs b))
+        subst (λ v. KeysMatch env (and_key (key_pattern k q) ks) ps v) c
+        (a_key key t i j (from_matches q t us g) (from_keys ks ps vs b))
 
-pub one_and_the_same : (env : Name → Option Term) (q : Pattern) (t : Term) (ws : Values) → Matches env q t ws ↔ (matches env q t ≡ Some ws)
+pub one_and_the_same : (env : Name → Option Term) (q : Pattern) (t : Term) (ws : Values)
+    → Matches env q t ws ↔ (matches env q t ≡ Some ws)
 one_and_the_same env q t ws = (λ h. give_matches h, λ e. from_matches env q t ws e)
 
-pub all_the_same : (env : Name → Option Term) (qs : Patterns) (ts : Terms) (ws : Values) → AllMatch env qs ts ws ↔ (match_all env qs ts ≡ Some ws)
+pub all_the_same : (env : Name → Option Term) (qs : Patterns) (ts : Terms) (ws : Values)
+    → AllMatch env qs ts ws ↔ (match_all env qs ts ≡ Some ws)
 all_the_same env qs ts ws = (λ h. all_give h, λ e. from_all env qs ts ws e)

@@ -39,17 +39,20 @@ abbrev thrown_x : Reply
 thrown_x = raised W.throw (atom (codes "x"))
 
 raise_inside_a_handler : run_none nested (thrown_x ∷ [])
-    ≡ run (called thrown_x ∷ []) [] (gives (tuple_of (atom (codes "error") ∷ tuple_of (atom (codes "again") ∷ atom (codes "x") ∷ []) ∷ [])))
+    ≡ run (called thrown_x ∷ []) []
+    (gives (tuple_of (atom (codes "error") ∷ tuple_of (atom (codes "again") ∷ atom (codes "x") ∷ []) ∷ [])))
 unfolding evaluated
 raise_inside_a_handler = refl
 
 -- catch: a throw gives its reason, an exit a tuple, an error a tuple with a trace that the world is asked for
-catch_of_throw : run_none (C.catch p0 calling) (thrown_x ∷ []) ≡ run (called thrown_x ∷ []) [] (gives (atom (codes "x")))
+catch_of_throw : run_none (C.catch p0 calling) (thrown_x ∷ [])
+    ≡ run (called thrown_x ∷ []) [] (gives (atom (codes "x")))
 unfolding evaluated
 catch_of_throw = refl
 
 catch_of_exit : let r = raised W.exit (atom (codes "x")) in
-    run_none (C.catch p0 calling) (r ∷ []) ≡ run (called r ∷ []) [] (gives (tuple_of (atom (codes "EXIT") ∷ atom (codes "x") ∷ [])))
+    run_none (C.catch p0 calling) (r ∷ [])
+    ≡ run (called r ∷ []) [] (gives (tuple_of (atom (codes "EXIT") ∷ atom (codes "x") ∷ [])))
 unfolding evaluated
 catch_of_exit = refl
 
@@ -68,23 +71,28 @@ catch_waits_for_trace = refl
 
 -- raising again: the class is the raw trace's
 abbrev raising : Module
-raising = program (codes "m") (def (codes "f") 1 (fun (codes "T" ∷ []) (primop (codes "raise") (v (codes "T") ∷ a (codes "x") ∷ []))) ∷ [])
+raising = program (codes "m")
+    (def (codes "f") 1 (fun (codes "T" ∷ []) (primop (codes "raise") (v (codes "T") ∷ a (codes "x") ∷ []))) ∷ [])
 
-raise_of_no_trace : evaluated raising (key (codes "f") 1) (int 1 ∷ []) alone 10 ≡ run [] [] (raises T.error (atom (codes "badarg")))
+raise_of_no_trace : evaluated raising (key (codes "f") 1) (int 1 ∷ []) alone 10
+    ≡ run [] [] (raises T.error (atom (codes "badarg")))
 unfolding evaluated
 raise_of_no_trace = refl
 
-raise_again : evaluated raising (key (codes "f") 1) (T.raw_trace T.exit ∷ []) alone 10 ≡ run [] [] (raises T.exit (atom (codes "x")))
+raise_again : evaluated raising (key (codes "f") 1) (T.raw_trace T.exit ∷ []) alone 10
+    ≡ run [] [] (raises T.exit (atom (codes "x")))
 unfolding evaluated
 raise_again = refl
 
 -- match_fail with a tuple that begins with 'function_clause' raises the atom
-failed_function_clause : run_none (primop (codes "match_fail") (tuple (a (codes "function_clause") ∷ a (codes "b") ∷ []) ∷ [])) []
+failed_function_clause : run_none
+    (primop (codes "match_fail") (tuple (a (codes "function_clause") ∷ a (codes "b") ∷ []) ∷ [])) []
     ≡ run [] [] (raises T.error (atom (codes "function_clause")))
 unfolding evaluated
 failed_function_clause = refl
 
-failed_with_a_reason : run_none (primop (codes "match_fail") (tuple (a (codes "badmatch") ∷ a (codes "b") ∷ []) ∷ [])) []
+failed_with_a_reason : run_none
+    (primop (codes "match_fail") (tuple (a (codes "badmatch") ∷ a (codes "b") ∷ []) ∷ [])) []
     ≡ run [] [] (raises T.error (tuple_of (atom (codes "badmatch") ∷ atom (codes "b") ∷ [])))
 unfolding evaluated
 failed_with_a_reason = refl

@@ -12,17 +12,27 @@ use Rattle.core_meaning.proofs.Build.{key, atom, int, a, i, v, fun, receive, erl
 
 -- a run that receives
 abbrev received : List Happening → List Looked → List ℕ → Outcome Term → Result
-received hs ls xs end = record { happenings = hs; entries = []; looks = ls; marks = []; examined = xs; subs = 0; end = end }
+received hs ls xs end = record {
+  happenings = hs;
+  entries = [];
+  looks = ls;
+  marks = [];
+  examined = xs;
+  subs = 0;
+  end = end;
+}
 
 -- receive <'stop'> when 'true' -> 'stopped' after T -> 'late'
 abbrev stopping : Module
 stopping = program (codes "m") (def (codes "f") 1 (fun (codes "T" ∷ [])
-    (receive (clause (known (atom (codes "stop")) ∷ []) yes (a (codes "stopped")) ∷ []) (v (codes "T")) (a (codes "late")))) ∷ [])
+    (receive (clause (known (atom (codes "stop")) ∷ []) yes (a (codes "stopped")) ∷ []) (v (codes "T"))
+    (a (codes "late")))) ∷ [])
 
 abbrev stop : Term → Values → List Reply → Result
 stop t mailbox rs = evaluated stopping (key (codes "f") 1) (t ∷ []) (script mailbox rs) 10
 
-receive_with_timeout_zero : stop (int 0) [] (brings [] ∷ []) ≡ received (asked W.look (brings []) ∷ []) [] [] (gives (atom (codes "late")))
+receive_with_timeout_zero : stop (int 0) [] (brings [] ∷ [])
+    ≡ received (asked W.look (brings []) ∷ []) [] [] (gives (atom (codes "late")))
 unfolding evaluated
 receive_with_timeout_zero = refl
 
@@ -52,7 +62,8 @@ receive_waits_for_ever = refl
 -- receive <X> when 1 div X =:= 1 -> X after 0 -> 'none'
 abbrev dividing : Module
 dividing = program (codes "m") (def (codes "d") 0 (fun []
-    (receive (clause (any (codes "X") ∷ []) (same (erlang (codes "div") (i 1 ∷ v (codes "X") ∷ [])) (i 1)) (v (codes "X")) ∷ []) (i 0) (a (codes "none")))) ∷ [])
+    (receive (clause (any (codes "X") ∷ []) (same (erlang (codes "div") (i 1 ∷ v (codes "X") ∷ [])) (i 1))
+    (v (codes "X")) ∷ []) (i 0) (a (codes "none")))) ∷ [])
 
 abbrev divide : Values → List Reply → Result
 divide mailbox rs = evaluated dividing (key (codes "d") 0) [] (script mailbox rs) 10

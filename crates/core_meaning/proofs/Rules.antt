@@ -35,17 +35,25 @@ pub record Logic : Type 1 where
   pub given : {A : Type 0} (a : A) → Rel (give a) (give a)
   pub failed : {A : Type 0} (c : Class) (r : Term) → Rel {A = A} (fail c r) (fail c r)
   pub waited : {A : Type 0} (q : Request) → Rel {A = A} (λ s. (s, waits q)) (λ s. (s, waits q))
-  pub bound : {A B : Type 0} (m n : M A) (f g : A → M B) → Rel m n → ((a : A) → Rel (f a) (g a)) → Rel (m >>= f) (n >>= g)
-  pub caught : {A B : Type 0} (m n : M A) (f g : A → M B) (h i : Class → Term → M B) → Rel m n → ((a : A) → Rel (f a) (g a)) → ((c : Class) (r : Term) → Rel (h c r) (i c r)) → Rel (either m f h) (either n g i)
+  pub bound : {A B : Type 0} (m n : M A) (f g : A → M B) → Rel m n → ((a : A) → Rel (f a) (g a))
+      → Rel (m >>= f) (n >>= g)
+  pub caught : {A B : Type 0} (m n : M A) (f g : A → M B) (h i : Class → Term → M B) → Rel m n
+      → ((a : A) → Rel (f a) (g a)) → ((c : Class) (r : Term) → Rel (h c r) (i c r)) → Rel (either m f h) (either n g i)
   pub moved : {A : Type 0} (f : State → State) → Quiet f → (m n : M A) → Rel m n → Rel (λ s. m (f s)) (λ s. n (f s))
-  pub seen : {A X : Type 0} (g : State → X) → ((s : State) (k : ℕ) → g (with_left k s) ≡ g s) → (f h : X → M A) → ((x : X) → Rel (f x) (h x)) → Rel (λ s. f (g s) s) (λ s. h (g s) s)
+  pub seen : {A X : Type 0} (g : State → X) → ((s : State) (k : ℕ) → g (with_left k s) ≡ g s) → (f h : X → M A)
+      → ((x : X) → Rel (f x) (h x)) → Rel (λ s. f (g s) s) (λ s. h (g s) s)
   pub guard : (m n : M Values) → Rel m n → m blank ≡ n blank
 
 pub noting_quiet : (n : Note) → ((s : State) → entries (noting n s).notes ≡ entries s.notes) → Quiet (noting n)
 noting_quiet n e = record { left = λ s. refl; free = λ s k. refl; same = e; grows = λ s. (n ∷ [], refl) }
 
 pub answered_quiet : (q : Request) (r : Reply) (rs : List Reply) → Quiet (answered q r rs)
-answered_quiet q r rs = record { left = λ s. refl; free = λ s k. refl; same = λ s. refl; grows = λ s. (happened (W.asked q r) ∷ [], refl) }
+answered_quiet q r rs = record {
+  left = λ s. refl;
+  free = λ s k. refl;
+  same = λ s. refl;
+  grows = λ s. (happened (W.asked q r) ∷ [], refl);
+}
 
 module _ (L : Logic) where
   -- What is shared by all meanings.
@@ -57,7 +65,8 @@ module _ (L : Logic) where
   pub ask_ok : (q : Request) → L.Rel (ask q) (ask q)
   ask_ok q = L.seen (λ s. s.replies) (λ s k. refl) (ask_from q) (ask_from q) (λ rs. ask_from_ok q rs)
 
-  pub one_ok : {B : Type 0} (m n : M Values) (f g : Term → M B) → L.Rel m n → ((t : Term) → L.Rel (f t) (g t)) → L.Rel (one m f) (one n g)
+  pub one_ok : {B : Type 0} (m n : M Values) (f g : Term → M B) → L.Rel m n → ((t : Term) → L.Rel (f t) (g t))
+      → L.Rel (one m f) (one n g)
   one_ok m n f g r h = L.bound m n (λ vs. f (only vs)) (λ vs. g (only vs)) r (λ vs. h (only vs))
 
   pub single_ok : (t : Term) → L.Rel (single t) (single t)
@@ -71,7 +80,12 @@ module _ (L : Logic) where
   replied_ok r = go r.how
     where
       go : (h : W.How) →
-          let m : M Values = elim h [ W.return ↦ single r.term | W.error ↦ fail T.error r.term | W.exit ↦ fail T.exit r.term | W.throw ↦ fail T.throw r.term ] in
+          let m : M Values = elim h [
+            | W.return ↦ single r.term
+            | W.error ↦ fail T.error r.term
+            | W.exit ↦ fail T.exit r.term
+            | W.throw ↦ fail T.throw r.term
+          ] in
           L.Rel m m
       go W.return = single_ok _
       go W.error = L.failed _ _
@@ -85,7 +99,12 @@ module _ (L : Logic) where
   sent_ok t r = go r.how
     where
       go : (h : W.How) →
-          let m : M Values = elim h [ W.return ↦ single t | W.error ↦ fail T.error (T.atom (codes "badarg")) | W.exit ↦ fail T.error (T.atom (codes "badarg")) | W.throw ↦ fail T.error (T.atom (codes "badarg")) ] in
+          let m : M Values = elim h [
+            | W.return ↦ single t
+            | W.error ↦ fail T.error (T.atom (codes "badarg"))
+            | W.exit ↦ fail T.error (T.atom (codes "badarg"))
+            | W.throw ↦ fail T.error (T.atom (codes "badarg"))
+          ] in
           L.Rel m m
       go W.return = single_ok _
       go W.error = L.failed _ _
@@ -140,16 +159,24 @@ module _ (L : Logic) where
 
   mark_quiet : (t : Term) (ns : List Note) → Quiet (last_mark t ns)
   mark_quiet t [] = record { left = λ s. refl; free = λ s k. refl; same = λ s. refl; grows = λ s. ([], refl) }
-  mark_quiet t (happened (W.asked q r) ∷ ns) = record { left = λ s. refl; free = λ s k. refl; same = λ s. refl; grows = λ s. (marked _ ∷ [], refl) }
-  mark_quiet t (happened (W.taken n) ∷ ns) = record { left = λ s. refl; free = λ s k. refl; same = λ s. refl; grows = λ s. ([], refl) }
-  mark_quiet t (entered e ∷ ns) = record { left = λ s. refl; free = λ s k. refl; same = λ s. refl; grows = λ s. ([], refl) }
-  mark_quiet t (looked l ∷ ns) = record { left = λ s. refl; free = λ s k. refl; same = λ s. refl; grows = λ s. ([], refl) }
-  mark_quiet t (marked x ∷ ns) = record { left = λ s. refl; free = λ s k. refl; same = λ s. refl; grows = λ s. ([], refl) }
-  mark_quiet t (began o ∷ ns) = record { left = λ s. refl; free = λ s k. refl; same = λ s. refl; grows = λ s. ([], refl) }
+  mark_quiet t (happened (W.asked q r) ∷ ns) =
+      record { left = λ s. refl; free = λ s k. refl; same = λ s. refl; grows = λ s. (marked _ ∷ [], refl) }
+  mark_quiet t (happened (W.taken n) ∷ ns) =
+      record { left = λ s. refl; free = λ s k. refl; same = λ s. refl; grows = λ s. ([], refl) }
+  mark_quiet t (entered e ∷ ns) =
+      record { left = λ s. refl; free = λ s k. refl; same = λ s. refl; grows = λ s. ([], refl) }
+  mark_quiet t (looked l ∷ ns) =
+      record { left = λ s. refl; free = λ s k. refl; same = λ s. refl; grows = λ s. ([], refl) }
+  mark_quiet t (marked x ∷ ns) =
+      record { left = λ s. refl; free = λ s k. refl; same = λ s. refl; grows = λ s. ([], refl) }
+  mark_quiet t (began o ∷ ns) =
+      record { left = λ s. refl; free = λ s k. refl; same = λ s. refl; grows = λ s. ([], refl) }
   mark_quiet t (cut n ∷ ns) = record { left = λ s. refl; free = λ s k. refl; same = λ s. refl; grows = λ s. ([], refl) }
 
-  marked_ok : (vs : Values) → L.Rel (λ s. (last_mark (only vs) s.notes s, gives vs)) (λ s. (last_mark (only vs) s.notes s, gives vs))
-  marked_ok vs = L.seen (λ s. s.notes) (λ s k. refl) (λ ns s. (last_mark (only vs) ns s, gives vs)) (λ ns s. (last_mark (only vs) ns s, gives vs))
+  marked_ok : (vs : Values)
+      → L.Rel (λ s. (last_mark (only vs) s.notes s, gives vs)) (λ s. (last_mark (only vs) s.notes s, gives vs))
+  marked_ok vs = L.seen (λ s. s.notes) (λ s k. refl) (λ ns s. (last_mark (only vs) ns s, gives vs))
+      (λ ns s. (last_mark (only vs) ns s, gives vs))
       (λ ns. L.moved (last_mark (only vs) ns) (mark_quiet (only vs) ns) (give vs) (give vs) (L.given vs))
 
   pub marking_ok : (b : Bool) (m m' : M Values) → L.Rel m m' → L.Rel (marking b m) (marking b m')

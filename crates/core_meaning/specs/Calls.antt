@@ -7,7 +7,7 @@ use Rattle.erl_term.specs.Terms.{Values, word}
 use Rattle.world_model.specs.World as W
 use Rattle.world_model.specs.Run.{M, ◌>>=◌, fail, ask}
 use Rattle.world_model.specs.Meaning.{single}
-use Rattle.world_model.specs.Requests.{badarg}
+use Rattle.bif_table.specs.BuiltinAnswer.{badarg}
 use Rattle.world_model.specs.RemoteCalls.{Callees, raise_again}
 use Rattle.world_model.specs.Entries.{enter_site}
 use Rattle.core_form.specs.Sites.{Site}

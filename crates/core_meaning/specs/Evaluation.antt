@@ -9,7 +9,8 @@ use Rattle.erl_term.specs.Segments.{Shape, built, joined}
 use Rattle.world_model.specs.Run.{M, ◌>>=◌, give, fail}
 use Rattle.world_model.specs.Meaning.{as_values, one, single, either}
 use Rattle.world_model.specs.MapUpdate.{Put, put_all}
-use Rattle.world_model.specs.Requests.{badarg, exit_of}
+use Rattle.bif_table.specs.BuiltinAnswer.{badarg}
+use Rattle.world_model.specs.Requests.{exit_of}
 use Rattle.world_model.specs.RemoteCalls.{apply_term, call_terms}
 use Rattle.world_model.specs.Entries.{enter_site}
 use Rattle.world_model.specs.Receive.{timeout_of, Tried, receiving}

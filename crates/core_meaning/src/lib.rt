@@ -3,7 +3,8 @@
 //!
 //! `evaluated m f vs x n` calls the export f with the terms vs, in a world that does what the script x says, and enters
 //! at most n functions of the module. Of `'f'/1 = fun (X) -> call 'io':'nl' (X)` with one reply that returns `ok` it
-//! gives that one call happened, that nothing else was entered, and the end `gives ok`; without a reply it ends waiting.
+//! gives that one call happened, that nothing else was entered, and the end `gives ok`; without a reply it ends
+//! waiting.
 //!
 //! - Every call that is no local one is a request of the script, but for the listed functions of `erlang`; what comes
 //!   back, and which messages come meanwhile, stands in the reply.

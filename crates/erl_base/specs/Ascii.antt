@@ -1,4 +1,4 @@
--- Characters of ASCII by name.
+-- Characters of ASCII by name: one name a character, as the standard calls it.
 use Rattle.std.specs.Prelude.{ℕ}
 
 abbrev pub backspace : ℕ

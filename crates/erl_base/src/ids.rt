@@ -29,7 +29,7 @@ pub struct ChainId(pub u32);
 pub struct NodeId(pub u32);
 
 /// The name and arity of a function.
-#[derive(Debug, Drop)]
+#[derive(Debug, PartialEq, Eq, Hash, Drop)]
 pub struct FunKey {
     pub name: Name,
     pub arity: u32,

@@ -1,8 +1,13 @@
-//! Names, places, refusals, the list and box types that every other crate is built of, and parts of slices and of wholes.
+//! Names, places, refusals, the list and box types that every other crate is built of, and parts of slices and of
+//! wholes.
 //!
-//! A body that always answers want of memory meets the contracts of `push`, `Boxed::new`, `from_text`, `both`, `three` and every
-//! `copy`: no clause says when there is memory. The tests run each of these calls with ample memory and compare what it gives.
-//! `let_go` promises only that it ends: what it lets go of is not seen again.
+//! A `List` of three items that gets a fourth by `push` has those three and then it; a `Boxed` value reads as the
+//! value. So a type that is built of them, as a term, is plain data to a contract, and holds itself.
+//!
+//! Sound, since lists and boxes are formers, as std's own are, so the checker knows the parts of what is built of
+//! them. `let_go` promises only that it ends: what it lets go of is not seen again.
+//!
+//! A list holds at most 2^32 - 1 items. Text is not encoded here.
 #![tactic(auto)]
 
 mod boxed;
@@ -24,6 +29,3 @@ pub use name::Name;
 pub use parts::{both, let_go, three};
 pub use refusal::{Fault, Kind, LimitName, Outside, Refusal, ScopeFault};
 pub use slices::{behind, front};
-
-#[cfg(test)]
-mod tests;

@@ -27,5 +27,6 @@ pub fn three<A: Drop, B: Drop, C: Drop>(
     Ok((first, second, third))
 }
 
-/// Lets a value go. A type that holds itself drops its parts through this call, so that their drops are no part of its own.
+/// Lets a value go. A type that holds itself drops its parts through this call, so that their drops are no part of its
+/// own.
 pub fn let_go<T: Drop>(_value: T) {}

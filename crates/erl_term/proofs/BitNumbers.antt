@@ -27,15 +27,18 @@ number_from-bits_of (suc k) n m =
     joined q n h r s e = omega (arith, e)
 
 -- bits and the flipped ones hold numbers that add up to all ones
-flipped_sum : (a b : ℕ) (bs : List Bool) → number_from a (flipped bs) + number_from b bs + 1 ≡ (a + b + 1) * 2 ^ length bs
+flipped_sum : (a b : ℕ) (bs : List Bool)
+    → number_from a (flipped bs) + number_from b bs + 1 ≡ (a + b + 1) * 2 ^ length bs
 flipped_sum a b [] = omega arith
 flipped_sum a b (true ∷ bs) =
-    flipped_sum (2 * a) (2 * b + 1) bs ∙ twice (a + b + 1) (2 * a + (2 * b + 1) + 1) (2 ^ length bs) (omega arith) ∙ ap (λ p. (a + b + 1) * p) (sym (pow-suc 2 (length bs)))
+    flipped_sum (2 * a) (2 * b + 1) bs ∙ twice (a + b + 1) (2 * a + (2 * b + 1) + 1) (2 ^ length bs) (omega arith)
+    ∙ ap (λ p. (a + b + 1) * p) (sym (pow-suc 2 (length bs)))
   where
     twice : (x y p : ℕ) → y ≡ 2 * x → y * p ≡ x * (p * 2)
     twice x y p e = ap (λ z. z * p) e ∙ omega arith
 flipped_sum a b (false ∷ bs) =
-    flipped_sum (2 * a + 1) (2 * b) bs ∙ twice (a + b + 1) (2 * a + 1 + 2 * b + 1) (2 ^ length bs) (omega arith) ∙ ap (λ p. (a + b + 1) * p) (sym (pow-suc 2 (length bs)))
+    flipped_sum (2 * a + 1) (2 * b) bs ∙ twice (a + b + 1) (2 * a + 1 + 2 * b + 1) (2 ^ length bs) (omega arith)
+    ∙ ap (λ p. (a + b + 1) * p) (sym (pow-suc 2 (length bs)))
   where
     twice : (x y p : ℕ) → y ≡ 2 * x → y * p ≡ x * (p * 2)
     twice x y p e = ap (λ z. z * p) e ∙ omega arith
@@ -53,7 +56,8 @@ unsigned_read k n = ap pos (number_from-bits_of k 0 n ∙ omega arith)
 pub negative_read : (k n : ℕ) → number false false (low_bits k (negsuc n)) ≡ pos (2 ^ k - 1 - n % 2 ^ k)
 negative_read k n =
     ap pos (below (number_from 0 (flipped (bits_of k n))) (n % 2 ^ k) (2 ^ k)
-    (ap (λ m. number_from 0 (flipped (bits_of k n)) + m + 1) (sym (number_from-bits_of k 0 n ∙ omega arith)) ∙ flipped_sum 0 0 (bits_of k n)
+    (ap (λ m. number_from 0 (flipped (bits_of k n)) + m + 1) (sym (number_from-bits_of k 0 n ∙ omega arith))
+    ∙ flipped_sum 0 0 (bits_of k n)
     ∙ ap (λ l. (0 + 0 + 1) * 2 ^ l) (length-bits_of k n)))
   where
     below : (x y p : ℕ) → x + y + 1 ≡ (0 + 0 + 1) * p → x ≡ p - 1 - y
@@ -102,7 +106,9 @@ length-to_little : (f : ℕ) (bs : List Bool) → length (to_little f bs) ≡ le
 length-to_little zero bs = refl
 length-to_little (suc f) bs = by (leb (length bs) 8) refl (length-to_little f (take (length bs - 8) bs))
   where
-    by : (b : Bool) → leb (length bs) 8 ≡ b → length (to_little f (take (length bs - 8) bs)) ≡ length (take (length bs - 8) bs) → length (turned f bs b) ≡ length bs
+    by : (b : Bool) → leb (length bs) 8 ≡ b
+        → length (to_little f (take (length bs - 8) bs)) ≡ length (take (length bs - 8) bs)
+        → length (turned f bs b) ≡ length bs
     by true e h = refl
     by false e h =
         length-append (drop (length bs - 8) bs) (to_little f (take (length bs - 8) bs))
@@ -110,7 +116,8 @@ length-to_little (suc f) bs = by (leb (length bs) 8) refl (length-to_little f (t
         omega (arith, h, length-drop (length bs - 8) bs, length-take-le (length bs - 8) bs (omega arith)))
 
 -- eight bits in front of others
-eight_first : (g : ℕ) (xs ys : List Bool) → length xs ≡ 8 → 0 < length ys → from_little (suc g) (xs ++ ys) ≡ from_little g ys ++ xs
+eight_first : (g : ℕ) (xs ys : List Bool) → length xs ≡ 8 → 0 < length ys
+    → from_little (suc g) (xs ++ ys) ≡ from_little g ys ++ xs
 eight_first g xs ys e h =
     ap (turned_back g (xs ++ ys)) (more_than_eight (length (xs ++ ys)) (omega (arith, length-append xs ys)))
     ∙ ap₂ (λ as' bs. from_little g as' ++ bs)
@@ -132,7 +139,8 @@ little_back (suc f) zero bs h l = by (leb (length bs) 8) refl
     by false e = absurd (let m : 8 < length bs = many (length bs) e in omega (arith, l))
 little_back (suc f) (suc g) bs h l =
     by (leb (length bs) 8) refl
-    (λ m. little_back f g (take (length bs - 8) bs) (omega (arith, length-take-le (length bs - 8) bs (omega arith))) (omega (arith, length-take-le (length bs - 8) bs (omega arith))))
+    (λ m. little_back f g (take (length bs - 8) bs) (omega (arith, length-take-le (length bs - 8) bs (omega arith)))
+    (omega (arith, length-take-le (length bs - 8) bs (omega arith))))
   where
     by : (b : Bool) → leb (length bs) 8 ≡ b
         → (8 < length bs → from_little g (to_little f (take (length bs - 8) bs)) ≡ take (length bs - 8) bs)
@@ -151,6 +159,7 @@ little_back (suc f) (suc g) bs h l =
 pub little_read : (signed : Bool) (bs : List Bool) → number signed true (ordered true bs) ≡ number signed false bs
 little_read signed bs =
     ap (λ big. if signed && first_bit big then negsuc (number_from 0 (flipped big)) else pos (number_from 0 big))
-    (little_back (length bs) (length (to_little (length bs) bs)) bs (omega arith) (omega (arith, length-to_little (length bs) bs)))
+    (little_back (length bs) (length (to_little (length bs) bs)) bs (omega arith)
+    (omega (arith, length-to_little (length bs) bs)))
 
 pub ruleset reads = (unsigned_read, negative_read, positive_read, signed_read, little_read)

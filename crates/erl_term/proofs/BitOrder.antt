@@ -49,7 +49,8 @@ ordered_by_high zero (suc (suc b)) q x y h g e f = absurd (omega (arith, g))
 ordered_by_high (suc zero) (suc (suc b)) q x y h g e f = absurd (omega (arith, g))
 
 bits_ordered : (k x y : ℕ) (r s : List Bool)
-    → slice_cmp bool_cmp (bits_of k x ++ r) (bits_of k y ++ s) ≡ ordering_then (nat_cmp (x % 2 ^ k) (y % 2 ^ k)) (slice_cmp bool_cmp r s)
+    → slice_cmp bool_cmp (bits_of k x ++ r) (bits_of k y ++ s)
+    ≡ ordering_then (nat_cmp (x % 2 ^ k) (y % 2 ^ k)) (slice_cmp bool_cmp r s)
 bits_ordered zero x y r s =
     ap (λ o. ordering_then o (slice_cmp bool_cmp r s)) (nat_cmp_is (x % 1) (y % 1) Equal (omega arith))
 bits_ordered (suc k) x y r s =
@@ -58,8 +59,10 @@ bits_ordered (suc k) x y r s =
     ap (ordering_then (bool_cmp (eqb (x / q % 2) 1) (eqb (y / q % 2) 1))) (bits_ordered k x y r s)
     ∙ then-assoc (bool_cmp (eqb (x / q % 2) 1) (eqb (y / q % 2) 1)) (nat_cmp (x % q) (y % q)) (slice_cmp bool_cmp r s)
     ∙ ap (λ o. ordering_then o (slice_cmp bool_cmp r s))
-    (sym (ordered_by_high (x / q % 2) (y / q % 2) q (x % q) (y % q) (omega arith) (omega arith) (omega arith) (omega arith))
-    ∙ ap₂ nat_cmp (sym (high_and_low x q) ∙ ap (λ m. x % m) (sym (pow-suc 2 k))) (sym (high_and_low y q) ∙ ap (λ m. y % m) (sym (pow-suc 2 k))))
+    (sym (ordered_by_high (x / q % 2) (y / q % 2) q (x % q) (y % q) (omega arith) (omega arith)
+    (omega arith) (omega arith))
+    ∙ ap₂ nat_cmp (sym (high_and_low x q) ∙ ap (λ m. x % m) (sym (pow-suc 2 k)))
+    (sym (high_and_low y q) ∙ ap (λ m. y % m) (sym (pow-suc 2 k))))
 
 pub byte_is : (x : ℕ) → x < 256 → x % 2 ^ 8 ≡ x
 byte_is x h = omega arith
@@ -67,7 +70,8 @@ byte_is x h = omega arith
 abbrev bytes_cmp : List ℕ → List ℕ → Ordering
 bytes_cmp as' bs = slice_cmp bool_cmp (byte_bits as') (byte_bits bs)
 
-bytes_first : (a b : ℕ) (as' bs : List ℕ) → a < 256 → b < 256 → bytes_cmp (a ∷ as') (b ∷ bs) ≡ ordering_then (nat_cmp a b) (bytes_cmp as' bs)
+bytes_first : (a b : ℕ) (as' bs : List ℕ) → a < 256 → b < 256
+    → bytes_cmp (a ∷ as') (b ∷ bs) ≡ ordering_then (nat_cmp a b) (bytes_cmp as' bs)
 unfolding byte_bits
 bytes_first a b as' bs h g =
     bits_ordered 8 a b (byte_bits as') (byte_bits bs)
@@ -75,9 +79,11 @@ bytes_first a b as' bs h g =
 
 -- the bytes at i in front of those behind them
 pub bytes_step : (as' bs : List ℕ) (i : ℕ) → i < length as' → i < length bs → get_or as' i 0 < 256 → get_or bs i 0 < 256
-    → bytes_cmp (drop i as') (drop i bs) ≡ ordering_then (nat_cmp (get_or as' i 0) (get_or bs i 0)) (bytes_cmp (drop (i + 1) as') (drop (i + 1) bs))
+    → bytes_cmp (drop i as') (drop i bs)
+    ≡ ordering_then (nat_cmp (get_or as' i 0) (get_or bs i 0)) (bytes_cmp (drop (i + 1) as') (drop (i + 1) bs))
 bytes_step as' bs i h g u v =
-    ap₂ bytes_cmp (drop_more as' i 0 h) (drop_more bs i 0 g) ∙ bytes_first (get_or as' i 0) (get_or bs i 0) (drop (i + 1) as') (drop (i + 1) bs) u v
+    ap₂ bytes_cmp (drop_more as' i 0 h) (drop_more bs i 0 g)
+    ∙ bytes_first (get_or as' i 0) (get_or bs i 0) (drop (i + 1) as') (drop (i + 1) bs) u v
 
 -- one of the rows is at its end
 pub bytes_end : (as' bs : List ℕ) (i : ℕ) → i ≤ length as' → i ≤ length bs → min (length as') (length bs) ≤ i
@@ -90,9 +96,11 @@ bytes_end (a ∷ as') (b ∷ bs) zero h g m = absurd (omega (arith, m))
 bytes_end [] bs (suc i) h g m = absurd (omega (arith, h))
 bytes_end (a ∷ as') [] (suc i) h g m = absurd (omega (arith, g))
 bytes_end (a ∷ as') (b ∷ bs) (suc i) h g m =
-    bytes_end as' bs i (omega (arith, h)) (omega (arith, g)) (omega (arith, m)) ∙ sym (both_longer (length as') (length bs))
+    bytes_end as' bs i (omega (arith, h)) (omega (arith, g)) (omega (arith, m))
+    ∙ sym (both_longer (length as') (length bs))
 
-pub bytes_over : (as' bs : List ℕ) (o : Ordering) → o ≢ Equal → (i : ℕ) → i < length as' → i < length bs → get_or as' i 0 < 256 → get_or bs i 0 < 256
+pub bytes_over : (as' bs : List ℕ) (o : Ordering) → o ≢ Equal → (i : ℕ) → i < length as' → i < length bs
+    → get_or as' i 0 < 256 → get_or bs i 0 < 256
     → o ≡ nat_cmp (get_or as' i 0) (get_or bs i 0) → o ≡ bytes_cmp (drop i as') (drop i bs)
 bytes_over as' bs o n i h g u v e =
     sym (decided o (bytes_cmp (drop (i + 1) as') (drop (i + 1) bs)) n)
@@ -126,7 +134,8 @@ zeros_first (false ∷ z) [] h l = absurd (omega (arith, l))
 zeros_first (false ∷ z) (true ∷ bs) h l = refl
 zeros_first (false ∷ z) (false ∷ bs) h l = zeros_first z bs h (omega (arith, l))
 
-zeros_last : (z bs : List Bool) → Zero z → length z ≤ length bs → ordering_then (slice_cmp bool_cmp bs z) Greater ≡ Greater
+zeros_last : (z bs : List Bool) → Zero z → length z ≤ length bs
+    → ordering_then (slice_cmp bool_cmp bs z) Greater ≡ Greater
 zeros_last [] [] h l = refl
 zeros_last [] (b ∷ bs) h l = refl
 zeros_last (true ∷ z) bs h l = cc
@@ -147,7 +156,8 @@ filled : (a b y z : List Bool) → Zero y → Zero z
     → (length a ≤ length b → length a + length y ≤ length b + length z)
     → (length b ≤ length a → length b + length z ≤ length a + length y)
     → slice_cmp bool_cmp a b ≡ ordering_then (slice_cmp bool_cmp (a ++ y) (b ++ z)) (nat_cmp (length a) (length b))
-filled [] [] y z g h m n = ap (λ o. ordering_then o Equal) (sym (zeros_same y z g h (omega (arith, m (omega arith), n (omega arith)))))
+filled [] [] y z g h m n =
+    ap (λ o. ordering_then o Equal) (sym (zeros_same y z g h (omega (arith, m (omega arith), n (omega arith)))))
 filled [] (b ∷ bs) y z g h m n =
     sym (zeros_first y (b ∷ bs ++ z) g (omega (arith, length-append bs z, m (omega arith))))
     ∙ ap (ordering_then (slice_cmp bool_cmp y (b ∷ bs ++ z))) (sym (first_shorter (length bs)))
@@ -155,20 +165,24 @@ filled (a ∷ as') [] y z g h m n =
     sym (zeros_last z (a ∷ as' ++ y) h (omega (arith, length-append as' y, n (omega arith))))
     ∙ ap (ordering_then (slice_cmp bool_cmp (a ∷ as' ++ y) z)) (sym (first_longer (length as')))
 filled (a ∷ as') (b ∷ bs) y z g h m n =
-    ap (ordering_then (bool_cmp a b)) (filled as' bs y z g h (λ l. omega (arith, m (omega (arith, l)))) (λ l. omega (arith, n (omega (arith, l)))))
+    ap (ordering_then (bool_cmp a b))
+    (filled as' bs y z g h (λ l. omega (arith, m (omega (arith, l)))) (λ l. omega (arith, n (omega (arith, l)))))
     ∙ then-assoc (bool_cmp a b) (slice_cmp bool_cmp (as' ++ y) (bs ++ z)) (nat_cmp (length as') (length bs))
-    ∙ ap (ordering_then (ordering_then (bool_cmp a b) (slice_cmp bool_cmp (as' ++ y) (bs ++ z)))) (sym (both_longer (length as') (length bs)))
+    ∙ ap (ordering_then (ordering_then (bool_cmp a b) (slice_cmp bool_cmp (as' ++ y) (bs ++ z))))
+    (sym (both_longer (length as') (length bs)))
 
 pub count_of_full : (b : Bits) → IsFull b → length b.bytes ≡ (b.length + 7) / 8
 unfolding bits_fit
-count_of_full b h = eqb-true (length b.bytes) ((b.length + 7) / 8) (left_true (eqb (length b.bytes) ((b.length + 7) / 8)) _ h)
+count_of_full b h = eqb-true (length b.bytes) ((b.length + 7) / 8)
+    (left_true (eqb (length b.bytes) ((b.length + 7) / 8)) _ h)
 
 zero_of_full : (b : Bits) → IsFull b → Zero (drop b.length (byte_bits b.bytes))
 unfolding bits_fit
 zero_of_full b h = right_true (eqb (length b.bytes) ((b.length + 7) / 8)) _ h
 
 length-bits_view : (b : Bits) → IsFull b → length (bits_view b) ≡ b.length
-length-bits_view b h = length-take-le b.length (byte_bits b.bytes) (omega (arith, length-byte_bits b.bytes, count_of_full b h))
+length-bits_view b h = length-take-le b.length (byte_bits b.bytes)
+    (omega (arith, length-byte_bits b.bytes, count_of_full b h))
 
 length-unused : (b : Bits) → IsFull b → b.length + length (drop b.length (byte_bits b.bytes)) ≡ 8 * ((b.length + 7) / 8)
 length-unused b h = omega (arith, length-drop b.length (byte_bits b.bytes), length-byte_bits b.bytes, count_of_full b h)
@@ -184,5 +198,6 @@ bits_compared a b g h =
     filled (bits_view a) (bits_view b) (drop a.length (byte_bits a.bytes)) (drop b.length (byte_bits b.bytes))
     (zero_of_full a g) (zero_of_full b h) (λ l. omega arith) (λ l. omega arith)
     ∙ ap₂ ordering_then
-    (ap₂ (slice_cmp bool_cmp) (take-append-drop a.length (byte_bits a.bytes)) (take-append-drop b.length (byte_bits b.bytes)))
+    (ap₂ (slice_cmp bool_cmp) (take-append-drop a.length (byte_bits a.bytes))
+    (take-append-drop b.length (byte_bits b.bytes)))
     (ap₂ nat_cmp p q)

@@ -59,7 +59,8 @@ no_cell (form.RawTrace c) h = λ e. cc
 
 pub tail_no_cell : (t : Term) → IsTrue (not (layout t).listed) → NoCell (view t)
 tail_no_cell t h =
-    subst NoCell (sym (view-out t)) (no_cell (out-Term t) (subst (λ (l : Layout). IsTrue (not l.listed)) (layout-out t) h))
+    subst NoCell (sym (view-out t))
+    (no_cell (out-Term t) (subst (λ (l : Layout). IsTrue (not l.listed)) (layout-out t) h))
 
 list_form : (a : Term) (xs : List Term) (t : Term) → a ≡ ListTerm xs t → layout a ≡ laid (form.List xs t)
 list_form a xs t e = layout-out a ∙ ap laid (ap out-Term e ∙ outs-List xs t)
@@ -69,11 +70,13 @@ tail_normal a xs t u e f n =
     let h : IsTrue (laid (form.List xs t)).normal = subst (λ (l : Layout). IsTrue l.normal) (list_form a xs t e) n in
     subst IsNormal (sym f) (right_true _ (layout t).normal (left_true _ (not (layout t).listed) h))
 
-pub tail_not_listed : (a : Term) (xs : List Term) (t u : Term) → a ≡ ListTerm xs t → u ≡ t → IsNormal a → IsTrue (not (layout u).listed)
+pub tail_not_listed : (a : Term) (xs : List Term) (t u : Term) → a ≡ ListTerm xs t → u ≡ t → IsNormal a
+    → IsTrue (not (layout u).listed)
 tail_not_listed a xs t u e f n =
     let h : IsTrue (laid (form.List xs t)).normal =
     subst (λ (l : Layout). IsTrue l.normal) (layout-out a ∙ ap laid (ap out-Term e ∙ outs-List xs t)) n in
     subst (λ w. IsTrue (not (layout w).listed)) (sym f) (right_true _ (not (layout t).listed) h)
 
 pub value_normal : (p : Pair) → IsTrue (pair_normal p) → IsNormal p.value
-value_normal p h = right_true (layout p.key).normal (layout p.value).normal (subst IsTrue (fold_out-Pair Layout Bool layout_step pair_layout_step p) h)
+value_normal p h = right_true (layout p.key).normal (layout p.value).normal
+    (subst IsTrue (fold_out-Pair Layout Bool layout_step pair_layout_step p) h)

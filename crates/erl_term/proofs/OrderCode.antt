@@ -56,7 +56,8 @@ key_cmp k l =
 
 abbrev mutual
   pub code_cmp : Code → Code → Ordering
-  code_cmp (node k as' bs) (node l cs ds) = ordering_then (key_cmp k l) (ordering_then (codes_cmp as' cs) (codes_cmp bs ds))
+  code_cmp (node k as' bs) (node l cs ds) =
+      ordering_then (key_cmp k l) (ordering_then (codes_cmp as' cs) (codes_cmp bs ds))
 
   pub codes_cmp : Codes → Codes → Ordering
   codes_cmp none none = Equal
@@ -84,7 +85,8 @@ record AtThree (a b c : Ordering) : Type 0 where
 from_total : {K : Type 0} {R : K → K → Ordering} → IsTotalOrder R → (x y z : K) → AtThree (R x y) (R y z) (R x z)
 from_total o x y z = record { less = o.trans x y z; left = o.congr x y z; right = λ e. sym (alike_right o y z x e) }
 
-then_less : (a b c d e f : Ordering) → AtThree a b c → AtThree d e f → ordering_then a d ≡ Less → ordering_then b e ≡ Less → ordering_then c f ≡ Less
+then_less : (a b c d e f : Ordering) → AtThree a b c → AtThree d e f → ordering_then a d ≡ Less
+    → ordering_then b e ≡ Less → ordering_then c f ≡ Less
 then_less Less Less c d e f g h p q = ap (λ o. ordering_then o f) (g.less refl refl)
 then_less Less Equal c d e f g h p q = ap (λ o. ordering_then o f) (g.right refl)
 then_less Less Greater c d e f g h p q = cc
@@ -93,22 +95,27 @@ then_less Equal Equal c d e f g h p q = ap (λ o. ordering_then o f) (g.left ref
 then_less Equal Greater c d e f g h p q = cc
 then_less Greater b c d e f g h p q = cc
 
-then_left : (a b c d e f : Ordering) → AtThree a b c → AtThree d e f → ordering_then a d ≡ Equal → ordering_then c f ≡ ordering_then b e
+then_left : (a b c d e f : Ordering) → AtThree a b c → AtThree d e f → ordering_then a d ≡ Equal
+    → ordering_then c f ≡ ordering_then b e
 then_left Less b c d e f g h p = cc
 then_left Equal b c d e f g h p = ap₂ ordering_then (g.left refl) (h.left p)
 then_left Greater b c d e f g h p = cc
 
-then_right : (a b c d e f : Ordering) → AtThree a b c → AtThree d e f → ordering_then b e ≡ Equal → ordering_then c f ≡ ordering_then a d
+then_right : (a b c d e f : Ordering) → AtThree a b c → AtThree d e f → ordering_then b e ≡ Equal
+    → ordering_then c f ≡ ordering_then a d
 then_right a Less c d e f g h p = cc
 then_right a Equal c d e f g h p = ap₂ ordering_then (g.right refl) (h.right p)
 then_right a Greater c d e f g h p = cc
 
-then_three : {a b c d e f : Ordering} → AtThree a b c → AtThree d e f → AtThree (ordering_then a d) (ordering_then b e) (ordering_then c f)
-then_three {a} {b} {c} {d} {e} {f} g h = record { less = then_less a b c d e f g h; left = then_left a b c d e f g h; right = then_right a b c d e f g h }
+then_three : {a b c d e f : Ordering} → AtThree a b c → AtThree d e f
+    → AtThree (ordering_then a d) (ordering_then b e) (ordering_then c f)
+then_three {a} {b} {c} {d} {e} {f} g h =
+    record { less = then_less a b c d e f g h; left = then_left a b c d e f g h; right = then_right a b c d e f g h }
 
 mutual
   three : (x y z : Code) → AtThree (code_cmp x y) (code_cmp y z) (code_cmp x z)
-  three (node k a b) (node l c d) (node m e f) = then_three (from_total key_total k l m) (then_three (all_three a c e) (all_three b d f))
+  three (node k a b) (node l c d) (node m e f) =
+      then_three (from_total key_total k l m) (then_three (all_three a c e) (all_three b d f))
 
   all_three : (xs ys zs : Codes) → AtThree (codes_cmp xs ys) (codes_cmp ys zs) (codes_cmp xs zs)
   all_three none none none = record { less = λ p q. cc; left = λ p. refl; right = λ p. refl }
@@ -120,17 +127,20 @@ mutual
   all_three (more x xs) (more y ys) none = record { less = λ p q. cc; left = λ p. refl; right = λ p. cc }
   all_three (more x xs) (more y ys) (more z zs) = then_three (three x y z) (all_three xs ys zs)
 
-reversed : (a b : Ordering) → ordering_reverse (ordering_then a b) ≡ ordering_then (ordering_reverse a) (ordering_reverse b)
+reversed : (a b : Ordering)
+    → ordering_reverse (ordering_then a b) ≡ ordering_then (ordering_reverse a) (ordering_reverse b)
 reversed Less b = refl
 reversed Equal b = refl
 reversed Greater b = refl
 
-then_reversed : (a b c d : Ordering) → a ≡ ordering_reverse b → c ≡ ordering_reverse d → ordering_then a c ≡ ordering_reverse (ordering_then b d)
+then_reversed : (a b c d : Ordering) → a ≡ ordering_reverse b → c ≡ ordering_reverse d
+    → ordering_then a c ≡ ordering_reverse (ordering_then b d)
 then_reversed a b c d p q = ap₂ ordering_then p q ∙ sym (reversed b d)
 
 mutual
   antisymm : (x y : Code) → code_cmp x y ≡ ordering_reverse (code_cmp y x)
-  antisymm (node k a b) (node l c d) = then_reversed _ _ _ _ (key_total.antisymm k l) (then_reversed _ _ _ _ (all_antisymm a c) (all_antisymm b d))
+  antisymm (node k a b) (node l c d) =
+      then_reversed _ _ _ _ (key_total.antisymm k l) (then_reversed _ _ _ _ (all_antisymm a c) (all_antisymm b d))
 
   all_antisymm : (xs ys : Codes) → codes_cmp xs ys ≡ ordering_reverse (codes_cmp ys xs)
   all_antisymm none none = refl

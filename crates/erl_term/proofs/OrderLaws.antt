@@ -72,10 +72,12 @@ mutual
   agrees (atom a) (atom b) = plain (slice_cmp nat_cmp a b)
   agrees (reference a) (reference b) = plain (nat_cmp a b)
   agrees (fun m s a ts) (fun n u b us) =
-      ap (λ o. ordering_then (slice_cmp nat_cmp m n) (ordering_then (nat_cmp s u) (ordering_then (nat_cmp a b) o))) (agrees_all ts us)
+      ap (λ o. ordering_then (slice_cmp nat_cmp m n) (ordering_then (nat_cmp s u) (ordering_then (nat_cmp a b) o)))
+      (agrees_all ts us)
       ∙ fun_heads (slice_cmp nat_cmp m n) (nat_cmp s u) (nat_cmp a b) (codes_cmp (codes ts) (codes us))
   agrees (extern m f a) (extern n g b) =
-      ap (λ o. ordering_then (slice_cmp nat_cmp m n) (ordering_then (slice_cmp nat_cmp f g) o)) (sym (and_no_more (nat_cmp a b)))
+      ap (λ o. ordering_then (slice_cmp nat_cmp m n) (ordering_then (slice_cmp nat_cmp f g) o))
+      (sym (and_no_more (nat_cmp a b)))
       ∙ sym (and_no_more _)
   agrees (port a) (port b) = plain (nat_cmp a b)
   agrees (pid a) (pid b) = plain (nat_cmp a b)
@@ -83,7 +85,8 @@ mutual
       ap (ordering_then (nat_cmp (count ts) (count us))) (agrees_all ts us)
       ∙ with_row (nat_cmp (count ts) (count us)) (codes_cmp (codes ts) (codes us))
   agrees (map ps) (map qs) =
-      ap₂ (λ o p. ordering_then (nat_cmp (pair_count ps) (pair_count qs)) (ordering_then o p)) (agrees_keys ps qs) (agrees_values ps qs)
+      ap₂ (λ o p. ordering_then (nat_cmp (pair_count ps) (pair_count qs)) (ordering_then o p)) (agrees_keys ps qs)
+      (agrees_values ps qs)
       ∙ ap (λ o. ordering_then o (ordering_then (codes_cmp (keys ps) (keys qs)) (codes_cmp (values ps) (values qs))))
       (sym (and_no_more (nat_cmp (pair_count ps) (pair_count qs))))
   agrees nil nil = refl
@@ -141,11 +144,13 @@ bool_same false true e = absurd cc
 bool_same true false e = absurd cc
 bool_same true true e = refl
 
-list_same : {A : Type 0} (R : A → A → Ordering) → ((x y : A) → R x y ≡ Equal → x ≡ y) → (xs ys : List A) → slice_cmp R xs ys ≡ Equal → xs ≡ ys
+list_same : {A : Type 0} (R : A → A → Ordering) → ((x y : A) → R x y ≡ Equal → x ≡ y) → (xs ys : List A)
+    → slice_cmp R xs ys ≡ Equal → xs ≡ ys
 list_same R same [] [] e = refl
 list_same R same [] (y ∷ ys) e = absurd cc
 list_same R same (x ∷ xs) [] e = absurd cc
-list_same R same (x ∷ xs) (y ∷ ys) e = let h = first_equal _ _ e in ap₂ (λ z zs. z ∷ zs) (same x y h.0) (list_same R same xs ys h.1)
+list_same R same (x ∷ xs) (y ∷ ys) e =
+    let h = first_equal _ _ e in ap₂ (λ z zs. z ∷ zs) (same x y h.0) (list_same R same xs ys h.1)
 
 name_same : (x y : List ℕ) → slice_cmp nat_cmp x y ≡ Equal → x ≡ y
 name_same = list_same nat_cmp nat_same

@@ -20,7 +20,8 @@ sized ts us = ordering_then (nat_cmp (count ts) (count us)) (compare_all ts us)
 
 -- by number, then by keys, then by values
 abbrev pub maps : Plain.Pairs → Plain.Pairs → Ordering
-maps ps qs = ordering_then (nat_cmp (pair_count ps) (pair_count qs)) (ordering_then (compare_keys ps qs) (compare_values ps qs))
+maps ps qs = ordering_then (nat_cmp (pair_count ps) (pair_count qs))
+    (ordering_then (compare_keys ps qs) (compare_values ps qs))
 
 -- module, site and arity of two local funs
 abbrev pub heads : List ℕ → ℕ → ℕ → List ℕ → ℕ → ℕ → Ordering
@@ -38,6 +39,7 @@ rest Equal t u = compare t u
 rest Greater t u = nat_cmp 10 (rank u)
 rest Less t u = nat_cmp (rank t) 10
 
+-- two lists by their items, then by their lengths and what ends them
 abbrev pub cells : Plain.Terms → Plain.Term → Plain.Terms → Plain.Term → Ordering
 cells ts t us u = ordering_then (common ts us) (rest (nat_cmp (count ts) (count us)) t u)
 
@@ -45,6 +47,7 @@ cells ts t us u = ordering_then (common ts us) (rest (nat_cmp (count ts) (count 
 abbrev pub row : List Term → Plain.Terms
 row ts = terms (map view ts)
 
+-- the plain pairs of a map
 abbrev pub pair_row : List Pair → Plain.Pairs
 pair_row ps = pairs (map pair_view ps)
 
@@ -56,14 +59,17 @@ same_kind (form.List xs t) (form.List ys u) = cells (row xs) (view t) (row ys) (
 same_kind (form.Tuple xs) (form.Tuple ys) = sized (row xs) (row ys)
 same_kind (form.Map ps) (form.Map qs) = maps (pair_row ps) (pair_row qs)
 same_kind (form.Bits a) (form.Bits b) = slice_cmp bool_cmp (bits_view a) (bits_view b)
-same_kind (form.Fun m s a xs) (form.Fun n u b ys) = ordering_then (heads m s.0 a n u.0 b) (compare_all (row xs) (row ys))
-same_kind (form.Extern m f a) (form.Extern n g b) = ordering_then (slice_cmp nat_cmp m n) (ordering_then (slice_cmp nat_cmp f g) (nat_cmp a b))
+same_kind (form.Fun m s a xs) (form.Fun n u b ys) =
+    ordering_then (heads m s.0 a n u.0 b) (compare_all (row xs) (row ys))
+same_kind (form.Extern m f a) (form.Extern n g b) =
+    ordering_then (slice_cmp nat_cmp m n) (ordering_then (slice_cmp nat_cmp f g) (nat_cmp a b))
 same_kind (form.Pid a) (form.Pid b) = nat_cmp a b
 same_kind (form.Reference a) (form.Reference b) = nat_cmp a b
 same_kind (form.Port a) (form.Port b) = nat_cmp a b
 same_kind (form.RawTrace a) (form.RawTrace b) = nat_cmp (class_rank (class_view a)) (class_rank (class_view b))
 same_kind _ _ = Equal
 
+-- two values of one kind
 abbrev pub same_kind_of : Term → Term → Ordering
 same_kind_of a b = same_kind (out-Term a) (out-Term b)
 
@@ -71,12 +77,15 @@ same_kind_of a b = same_kind (out-Term a) (out-Term b)
 abbrev pub AllNormal : List Term → Type 0
 AllNormal ts = IsTrue (all_normal (map layout ts))
 
+-- all pairs are in normal form
 abbrev pub PairsNormal : List Pair → Type 0
 PairsNormal ps = IsTrue (pairs_normal (map pair_normal ps))
 
+-- the values of all pairs are in normal form
 abbrev pub values_normal : List Pair → Bool
 values_normal [] = true
 values_normal (p ∷ ps) = (layout p.value).normal && values_normal ps
 
+-- the same, as a fact
 abbrev pub ValuesNormal : List Pair → Type 0
 ValuesNormal ps = IsTrue (values_normal ps)

@@ -7,12 +7,16 @@ pub record Depths : Type 0 where
   pub whole : ℕ
   pub rest : ℕ
 
+-- what is no list nests as the rest of a list as deep as on its own
 abbrev pub no_list : ℕ → Depths
 no_list n = record { whole = n; rest = n }
 
 unfoldable mutual
   pub depths : Term → Depths
-  depths (cons x y) = record { whole = suc (max (depths x).whole (depths y).rest); rest = max (depths x).whole (depths y).rest }
+  depths (cons x y) = record {
+    whole = suc (max (depths x).whole (depths y).rest);
+    rest = max (depths x).whole (depths y).rest;
+  }
   depths (tuple ts) = no_list (suc (deepest ts))
   depths (map ps) = no_list (suc (deepest_pair ps))
   depths (fun m s a ts) = no_list (suc (deepest ts))
@@ -26,5 +30,6 @@ unfoldable mutual
   deepest_pair no_pair = 0
   deepest_pair (pair k v ps) = max (max (depths k).whole (depths v).whole) (deepest_pair ps)
 
+-- how deep a term nests
 abbrev pub depth : Term → ℕ
 depth t = (depths t).whole

@@ -28,8 +28,10 @@ merge ps qs = put_all (map pair_view qs) (pair_row ps)
 -- what the least pair is that was taken off, and that fewer are left
 abbrev pub Taken : Option Pair → (ps qs ps' qs' : List Pair) → Type 0
 Taken None ps qs ps' qs' = (ps ≡ []) × (qs ≡ []) × (ps' ≡ []) × (qs' ≡ [])
-Taken (Some p) ps qs ps' qs' = (merge ps qs ≡ Plain.pair (pair_view p).0 (pair_view p).1 (merge ps' qs')) × IsTrue (pair_normal p)
+Taken (Some p) ps qs ps' qs' =
+    (merge ps qs ≡ Plain.pair (pair_view p).0 (pair_view p).1 (merge ps' qs')) × IsTrue (pair_normal p)
 
+-- where a pair was taken, fewer are left
 abbrev pub Fewer : Option Pair → (ps qs ps' qs' : List Pair) → Type 0
 Fewer None ps qs ps' qs' = Unit {0}
 Fewer (Some p) ps qs ps' qs' = length ps' + length qs' < length ps + length qs

@@ -26,7 +26,8 @@ abbrev mutual
   pairs_narrow no_pair = true
   pairs_narrow (pair k v ps) = is_narrow k && is_narrow v && pairs_narrow ps
 
--- whether in all parts integers have 128 signed bits, numbers and arities of funs 32 bits, and pids, references and ports 64
+-- whether in all parts integers have 128 signed bits, numbers and arities of funs 32 bits, and pids, references and
+-- ports 64
 abbrev mutual
   pub fits : Term → Bool
   fits (T.int z) = is_within_128 z

@@ -45,10 +45,12 @@ built_integer h _ _ = None
 abbrev pub whole_bits : Shape → List Bool → Option (List Bool)
 whole_bits h bs = if eqb (length bs % h.unit) 0 then Some bs else None
 
+-- as many first bits as a size and the unit say, where there are so many
 abbrev pub part_of : Shape → List Bool → Term → Option (List Bool)
 part_of h bs (T.int (pos n)) = first_bits (n * h.unit) bs
 part_of h bs _ = None
 
+-- the bits that a binary segment writes
 abbrev pub built_binary : Shape → Term → Term → Option (List Bool)
 built_binary h (T.bits bs) size = if h.whole then whole_bits h bs else part_of h bs size
 built_binary h _ size = None

@@ -1,4 +1,5 @@
--- The order of terms (Erlang's term order, with raw traces added; this project's own reading where Erlang leaves it open).
+-- The order of terms (Erlang's term order, with raw traces added; this project's own reading where Erlang leaves it
+-- open).
 use Rattle.std.specs.Prelude.{ℕ, suc, Bool, true, false}
 use Rattle.std.specs.Ordering.{nat_cmp, int_cmp, bool_cmp, ordering_then}
 use Rattle.std.specs.Cmp.Lexicographic.{slice_cmp}
@@ -6,6 +7,7 @@ use Rattle.std.specs.declared.cmp.Ordering.{Ordering}
 use Rattle.std.specs.declared.cmp.Ordering.TheVariants.{Less, Equal, Greater}
 use Rattle.erl_term.specs.Term.{Term, int, atom, nil, cons, tuple, map, bits, fun, extern, pid, reference, port, raw_trace, Terms, none, more, Pairs, no_pair, pair, Class, error, exit, throw}
 
+-- error before exit before throw
 abbrev pub class_rank : Class → ℕ
 class_rank error = 0
 class_rank exit = 1
@@ -28,10 +30,12 @@ rank (cons x y) = 10
 rank (bits bs) = 11
 rank (raw_trace c) = 12
 
+-- how many terms
 abbrev pub count : Terms → ℕ
 count none = 0
 count (more t ts) = suc (count ts)
 
+-- how many pairs
 abbrev pub pair_count : Pairs → ℕ
 pair_count no_pair = 0
 pair_count (pair k v ps) = suc (pair_count ps)
@@ -44,13 +48,16 @@ unfoldable mutual
   compare (atom a) (atom b) = slice_cmp nat_cmp a b
   compare (reference a) (reference b) = nat_cmp a b
   compare (fun m s a ts) (fun n u b us) =
-      ordering_then (slice_cmp nat_cmp m n) (ordering_then (nat_cmp s u) (ordering_then (nat_cmp a b) (compare_all ts us)))
-  compare (extern m f a) (extern n g b) = ordering_then (slice_cmp nat_cmp m n) (ordering_then (slice_cmp nat_cmp f g) (nat_cmp a b))
+      ordering_then (slice_cmp nat_cmp m n)
+      (ordering_then (nat_cmp s u) (ordering_then (nat_cmp a b) (compare_all ts us)))
+  compare (extern m f a) (extern n g b) =
+      ordering_then (slice_cmp nat_cmp m n) (ordering_then (slice_cmp nat_cmp f g) (nat_cmp a b))
   compare (port a) (port b) = nat_cmp a b
   compare (pid a) (pid b) = nat_cmp a b
   compare (tuple ts) (tuple us) = ordering_then (nat_cmp (count ts) (count us)) (compare_all ts us)
   compare (map ps) (map qs) =
-      ordering_then (nat_cmp (pair_count ps) (pair_count qs)) (ordering_then (compare_keys ps qs) (compare_values ps qs))
+      ordering_then (nat_cmp (pair_count ps) (pair_count qs))
+      (ordering_then (compare_keys ps qs) (compare_values ps qs))
   compare nil nil = Equal
   compare (cons x y) (cons z w) = ordering_then (compare x z) (compare y w)
   compare (bits a) (bits b) = slice_cmp bool_cmp a b
@@ -76,6 +83,7 @@ unfoldable mutual
   compare_values (pair k v ps) no_pair = Greater
   compare_values (pair k v ps) (pair l w qs) = ordering_then (compare v w) (compare_values ps qs)
 
+-- neither is less
 abbrev pub is_equal : Ordering → Bool
 is_equal Less = false
 is_equal Equal = true

@@ -15,14 +15,17 @@ abbrev pub terms : List Term → Terms
 terms [] = none
 terms (t ∷ ts) = more t (terms ts)
 
+-- a row of pairs, from a list
 abbrev pub pairs : List (Term × Term) → Pairs
 pairs [] = no_pair
 pairs (p ∷ ps) = pair p.0 p.1 (pairs ps)
 
+-- the terms of a row, as a list
 abbrev pub listed : Terms → List Term
 listed none = []
 listed (more t ts) = t ∷ listed ts
 
+-- the pairs of a row, as a list
 abbrev pub listed_pairs : Pairs → List (Term × Term)
 listed_pairs no_pair = []
 listed_pairs (pair k v ps) = (k, v) ∷ listed_pairs ps
@@ -41,10 +44,12 @@ list_of (v ∷ vs) t = T.cons v (list_of vs t)
 abbrev pub word : List ℕ → Term
 word a = T.atom a
 
+-- `true` and `false` as atoms
 abbrev pub truth : Bool → Term
 truth true = word (codes "true")
 truth false = word (codes "false")
 
+-- the atom of a class
 abbrev pub class_word : Class → Term
 class_word T.error = word (codes "error")
 class_word T.exit = word (codes "exit")
@@ -59,6 +64,7 @@ abbrev pub value_at : Pairs → Term → Option Term
 value_at no_pair k = None
 value_at (pair l v ps) k = if same_term k l then Some v else value_at ps k
 
+-- whether a term was found
 abbrev pub is_there : Option Term → Bool
 is_there None = false
 is_there (Some t) = true

@@ -13,6 +13,7 @@ use Rattle.erl_term.specs.Term as Plain
 use Rattle.erl_term.specs.Terms.{terms, pairs, list_of}
 use Rattle.erl_term.specs.BitString.{byte_bits}
 
+-- the plain class
 abbrev pub class_view : Class → Plain.Class
 class_view Error = Plain.error
 class_view Exit = Plain.exit
@@ -22,6 +23,7 @@ class_view Throw = Plain.throw
 abbrev pub bits_view : Bits → List Bool
 bits_view b = take b.length (byte_bits b.bytes)
 
+-- the plain term of a value whose parts are plain
 abbrev pub view_step : Term-F Plain.Term (Plain.Term × Plain.Term) → Plain.Term
 view_step (form.Int z) = Plain.int z
 view_step (form.Atom a) = Plain.atom a
@@ -37,14 +39,18 @@ view_step (form.Reference n) = Plain.reference n
 view_step (form.Port n) = Plain.port n
 view_step (form.RawTrace c) = Plain.raw_trace (class_view c)
 
+-- the same, of a pair
 abbrev pub pair_step : Pair-F Plain.Term (Plain.Term × Plain.Term) → Plain.Term × Plain.Term
 pair_step p = (p.key, p.value)
 
+-- the plain term that a value stands for
 abbrev pub view : Term → Plain.Term
 view = fold-Term Plain.Term (Plain.Term × Plain.Term) view_step pair_step
 
+-- the plain pair
 abbrev pub pair_view : Pair → Plain.Term × Plain.Term
 pair_view = fold-Pair Plain.Term (Plain.Term × Plain.Term) view_step pair_step
 
+-- the key and the plain value of an attribute
 abbrev pub attribute_view : Attribute → Name × Plain.Term
 attribute_view a = (a.key, view a.value)

@@ -35,7 +35,8 @@ pub fn bits_hold_their_number()
 #[tactic(auto, using(crate::proofs::MapLaws::puts))]
 pub fn maps_keep_what_is_put()
     ensures found { (k v : Plain.Term) (ps : Plain.Pairs) → value_at (put k v ps) k ≡ Some v }
-    ensures others { (k v m : Plain.Term) (ps : Plain.Pairs) → same_term m k ≡ false → value_at (put k v ps) m ≡ value_at ps m }
+    ensures others { (k v m : Plain.Term) (ps : Plain.Pairs) → same_term m k ≡ false
+        → value_at (put k v ps) m ≡ value_at ps m }
     ensures rising { (k v : Plain.Term) (ps : Plain.Pairs) → IsTrue (maps_rise k) → IsTrue (maps_rise v)
         → IsTrue (maps_rise (Plain.map ps)) → IsTrue (maps_rise (Plain.map (put k v ps))) }
 {}

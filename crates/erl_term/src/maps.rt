@@ -35,7 +35,8 @@ fn run(alloc: Global, left: &mut VecDeque<Pair>, count: usize) -> Result<VecDequ
     requires enough { count ≤ length left.old.items }
     requires well_formed { PairsWellFormed left.old.items }
     ensures left { OnOk result (left.new.items ≡ drop count left.old.items) }
-    ensures value { IfOk result (λ run. pair_row run.items ≡ put_all (map pair_view (take count left.old.items)) Plain.no_pair) }
+    ensures value { IfOk result (λ run.
+        pair_row run.items ≡ put_all (map pair_view (take count left.old.items)) Plain.no_pair) }
     ensures run { IfOk result (λ run. IsRun run.items) }
 {
     if count <= 1 {
@@ -57,7 +58,8 @@ fn single(
     requires enough { count ≤ length left.old.items }
     requires well_formed { PairsWellFormed left.old.items }
     ensures left { OnOk result (left.new.items ≡ drop count left.old.items) }
-    ensures value { IfOk result (λ run. pair_row run.items ≡ put_all (map pair_view (take count left.old.items)) Plain.no_pair) }
+    ensures value { IfOk result (λ run.
+        pair_row run.items ≡ put_all (map pair_view (take count left.old.items)) Plain.no_pair) }
     ensures run { IfOk result (λ run. IsRun run.items) }
 {
     if count == 0 {
@@ -72,7 +74,8 @@ fn single(
 #[tactic(auto, unfolding(crate::specs::Terms::put))]
 fn run_of(alloc: Global, pair: Pair) -> Result<VecDeque<Pair>, NoMemory>
     requires { PairsWellFormed (pair ∷ []) }
-    ensures value { IfOk result (λ run. pair_row run.items ≡ put_all (map pair_view (pair ∷ [])) Plain.no_pair) }
+    ensures value { IfOk result (λ run.
+        pair_row run.items ≡ put_all (map pair_view (pair ∷ [])) Plain.no_pair) }
     ensures run { IfOk result (λ run. IsRun run.items) }
 {
     let mut run = VecDeque::new(alloc);

@@ -6,7 +6,7 @@ use Rattle.std.proofs.lemmas.List.Folds.{concat-append}
 use Rattle.std.specs.List.{concat}
 use Rattle.store_io.specs.Causes.{Rose}
 use Rattle.store_io.specs.Files.{Alike, PutsAll}
-use Rattle.erlc_cli.specs.Notes.{Noted}
+use Rattle.erlc_cli.specs.Notes.{HasLine}
 
 first_part : (a b : List ℕ) (n : ℕ) → (m : ℕ) × (take n a ≡ take m (a ++ b))
 first_part a b zero = (0, refl)
@@ -23,8 +23,8 @@ puts_first r e f is a b None (Some y) p = p
 puts_first r e f is a b (Some x) None p = p
 puts_first r e f is a b (Some x) (Some y) p = rw is (let m = first_part a b p.0 in (m.0, p.1 ∙ ap (λ t. x ++ t) m.1))
 
-pub puts_both : (E : Type 0) (r : Result (Unit {0}) E) (a b : List ℕ) (x y z : Option (List ℕ)) → Alike x y (PutsAll {E = E} a (Ok tt))
-    → Alike y z (PutsAll {E = E} b r) → Alike x z (PutsAll (a ++ b) r)
+pub puts_both : (E : Type 0) (r : Result (Unit {0}) E) (a b : List ℕ) (x y z : Option (List ℕ))
+    → Alike x y (PutsAll {E = E} a (Ok tt)) → Alike y z (PutsAll {E = E} b r) → Alike x z (PutsAll (a ++ b) r)
 puts_both E r a b None None None p q = tt
 puts_both E r a b None None (Some z) p q = q
 puts_both E r a b None (Some y) z p q = absurd p
@@ -32,11 +32,12 @@ puts_both E r a b (Some x) None z p q = absurd p
 puts_both E r a b (Some x) (Some y) None p q = q
 puts_both E (Ok u) a b (Some x) (Some y) (Some z) p q = q ∙ ap (λ t. t ++ b) p ∙ append_assoc x a b
 puts_both E (Err e) a b (Some x) (Some y) (Some z) p q =
-    let m = second_part a b q.0 in (m.0, q.1 ∙ ap (λ t. t ++ take q.0 b) p ∙ append_assoc x a (take q.0 b) ∙ ap (λ t. x ++ t) m.1)
+    let m = second_part a b q.0 in
+    (m.0, q.1 ∙ ap (λ t. t ++ take q.0 b) p ∙ append_assoc x a (take q.0 b) ∙ ap (λ t. x ++ t) m.1)
 
 -- what a call that ended so has noted
-pub noted : (E : Type 0) (r : Result (Unit {0}) E) (line : List ℕ) (f g : ℕ) (x y : Option (List ℕ)) → Alike x y (PutsAll line r) → OnErr r (Rose f g)
-    → Alike x y (Noted line f g)
+pub noted : (E : Type 0) (r : Result (Unit {0}) E) (line : List ℕ) (f g : ℕ) (x y : Option (List ℕ))
+    → Alike x y (PutsAll line r) → OnErr r (Rose f g) → Alike x y (HasLine line f g)
 noted E r line f g None None p rose = tt
 noted E r line f g None (Some y) p rose = p
 noted E r line f g (Some x) None p rose = p
@@ -48,7 +49,8 @@ pub pieces_more : {A : Type 0} (f : A → List ℕ) (ps : List A) (i : ℕ) (d :
     → concat (map f (take (i + 1) ps)) ≡ concat (map f (take i ps)) ++ f (get_or ps i d)
 pieces_more f ps i d h =
     ap (λ n. concat (map f (take n ps))) (add-one i) ∙ ap (λ qs. concat (map f qs)) (take-suc ps i d h)
-    ∙ ap concat (map-append f (take i ps) (get_or ps i d ∷ [])) ∙ concat-append (map f (take i ps)) (f (get_or ps i d) ∷ [])
+    ∙ ap concat (map-append f (take i ps) (get_or ps i d ∷ []))
+    ∙ concat-append (map f (take i ps)) (f (get_or ps i d) ∷ [])
     ∙ ap (λ t. concat (map f (take i ps)) ++ t) (append-nil (f (get_or ps i d)))
 
 -- pieces before one, that piece, and those behind it
@@ -61,5 +63,6 @@ pieces_at f ps i d h =
     ∙ ap (λ qs. concat (map f qs)) (take-append-drop (i + 1) ps)
 
 -- the same of an equal line
-pub puts_moved : {E : Type 0} (r : Result (Unit {0}) E) (a b : List ℕ) (x y : Option (List ℕ)) → a ≡ b → Alike x y (PutsAll a r) → Alike x y (PutsAll b r)
+pub puts_moved : {E : Type 0} (r : Result (Unit {0}) E) (a b : List ℕ) (x y : Option (List ℕ)) → a ≡ b
+    → Alike x y (PutsAll a r) → Alike x y (PutsAll b r)
 puts_moved r a b x y e p = subst (λ (t : List ℕ). Alike x y (PutsAll t r)) e p

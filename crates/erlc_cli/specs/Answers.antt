@@ -1,6 +1,6 @@
 -- The answers of the top call and their codes; and what an action may answer, reads, leaves and puts out, by actions:
 -- an action more is a case more of each definition. Of words that ask for nothing all is left as it was.
-use Rattle.std.specs.Prelude.{◌≡◌, ℕ, List, Option, None, Some, IfSome}
+use Rattle.std.specs.Prelude.{◌≡◌, ◌⊎◌, ℕ, List, Option, None, Some, IfSome}
 use Rattle.std.specs.Option.{IsSomeAnd}
 use Rattle.store_io.specs.Causes.{Rose}
 use Rattle.store_io.specs.Files.{Told, Alike, Same}
@@ -30,9 +30,9 @@ ReadsFailed old new = Rose old.read_faults new.read_faults
 abbrev pub WritesFailed : Told → Told → Type 0
 WritesFailed old new = Rose old.write_faults new.write_faults
 
--- the answers that an action may give
+-- the answers that an action may give; to read the words takes memory
 abbrev pub IsAnswer : Option Action → Status → Type 0
-IsAnswer None status = status ≡ Usage
+IsAnswer None status = (status ≡ Usage) ⊎ (status ≡ NoMemory)
 IsAnswer (Some (compile input output)) status = IsCompileAnswer status
 
 -- what an action leaves of files that are told
@@ -45,10 +45,15 @@ abbrev pub LacksFile : Option Action → Told → Type 0
 LacksFile None told = ⊥
 LacksFile (Some (compile input output)) told = IsSomeAnd told.files (λ f. f input ≡ None)
 
+-- the count of faults of reading rose, or a file that the action reads is not there
+abbrev pub CannotRead : Option Action → Told → Told → Type 0
+CannotRead action old new = ReadsFailed old new ⊎ LacksFile action old
+
 -- files and rooms, if both are told, lack the room for what the action writes
 abbrev pub LacksRoomToWrite : Option Action → Told → Type 0
 LacksRoomToWrite None told = Unit {0}
-LacksRoomToWrite (Some (compile input output)) told = IfSome told.rooms (λ r. IfSome told.files (λ f. NoRoom input output f r))
+LacksRoomToWrite (Some (compile input output)) told =
+    IfSome told.rooms (λ r. IfSome told.files (λ f. NoRoom input output f r))
 
 -- the theorem on an action, over a store that tells its files
 abbrev pub IsRight : Option Action → Status → Told → Told → Type 0
@@ -56,7 +61,7 @@ IsRight None status old new = Unit {0}
 IsRight (Some (compile input output)) status old new =
     Alike old.files new.files (Headline input output status (ReadsFailed old new) (WritesFailed old new))
 
--- what an action puts out: what out tells, and the count of its faults, before and after
-abbrev pub PutsOut : Option Action → Option (List ℕ) × ℕ → Option (List ℕ) × ℕ → Type 0
-PutsOut None old new = new ≡ old
-PutsOut (Some (compile input output)) old new = new ≡ old
+-- what an action puts out, by what the bytes of out and the count of its faults tell, before and after
+abbrev pub PutsOut : {O : Type 0} → (O → Option (List ℕ)) → (O → ℕ) → Option Action → O → O → Type 0
+PutsOut bytes faults None old new = (bytes new ≡ bytes old) × (faults new ≡ faults old)
+PutsOut bytes faults (Some (compile input output)) old new = (bytes new ≡ bytes old) × (faults new ≡ faults old)

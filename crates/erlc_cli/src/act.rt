@@ -1,14 +1,13 @@
-ghost use Rattle.std.specs.Prelude.{◌≡◌, ◌⊎◌, ◌↔◌, ◌<◌, ℕ, List, None, length, take, drop};
-ghost use Rattle.store_io.specs.Files.{Alike};
+ghost use Rattle.std.specs.Prelude.{◌≡◌, ◌⊎◌, ◌<◌, ℕ, List, None, length, take, drop};
 ghost use Rattle.erlc_cli.specs.ActionView.{asked};
-ghost use Rattle.erlc_cli.specs.Answers.{IsAnswer, Leaves, LacksFile, LacksRoomToWrite, IsRight, PutsOut, ReadsFailed, WritesFailed};
+ghost use Rattle.erlc_cli.specs.Answers.{IsAnswer, Leaves, LacksFile, LacksRoomToWrite, IsRight, PutsOut, CannotRead, WritesFailed};
 ghost use Rattle.erlc_cli.specs.Notes.{Noted, note_of};
 
 use crate::action::{Action, action_in};
 use crate::compile::compile_file;
 use crate::notes::note;
 use crate::status::Status;
-use std::alloc::Global;
+use std::alloc::{AllocError, Global};
 use store_io::{Sink, Store};
 
 /// Does what the words ask for: `compile IN OUT` reads the module text IN and writes its assembly text to OUT.
@@ -25,37 +24,36 @@ pub fn run<S: Store, O: Sink, N: Sink>(
     requires { (s : S) → (name text : List ℕ) → (done : ℕ) → done < length text
         → S.may_append s name (take 4096 (drop done text)) }
     ensures answers { IsAnswer (asked words.now) result }
-    ensures usage { (result ≡ Status.Usage) ↔ (asked words.now ≡ None) }
+    ensures usage { result ≡ Status.Usage → asked words.now ≡ None }
     ensures files { Leaves (asked words.now) result (S.told store.old) (S.told store.new) }
-    ensures absent { LacksFile (asked words.now) (S.told store.old) → result ≡ Status.ReadFault }
-    ensures read { result ≡ Status.ReadFault
-        → ReadsFailed (S.told store.old) (S.told store.new) ⊎ LacksFile (asked words.now) (S.told store.old) }
+    ensures absent { LacksFile (asked words.now) (S.told store.old)
+        → (result ≡ Status.ReadFault) ⊎ (result ≡ Status.NoMemory) }
+    ensures read { result ≡ Status.ReadFault → CannotRead (asked words.now) (S.told store.old) (S.told store.new) }
     ensures write { result ≡ Status.WriteFault → WritesFailed (S.told store.old) (S.told store.new) }
     ensures no_room { result ≡ Status.WriteFault → LacksRoomToWrite (asked words.now) (S.told store.old) }
     ensures headline { IsRight (asked words.now) result (S.told store.old) (S.told store.new) }
-    ensures out { PutsOut (asked words.now) (O.bytes out.old, O.faults out.old) (O.bytes out.new, O.faults out.new) }
-    ensures notes { Alike (N.bytes notes.old) (N.bytes notes.new)
-        (Noted (note_of (asked words.now) result) (N.faults notes.old) (N.faults notes.new)) }
+    ensures out { PutsOut O.bytes O.faults (asked words.now) out.old out.new }
+    ensures notes { Noted N.bytes N.faults (note_of (asked words.now) result) notes.old notes.new }
 {
     let _ = &out;
-    match action_in(words) {
-        Some(Action::Compile(input, output)) => {
+    match action_in(alloc, words) {
+        Ok(Some(Action::Compile(input, output))) => {
             let status = compile_file(alloc, store, input, output);
             note(notes, status, input, output);
             status
         }
-        None => {
+        Ok(None) => {
             note(notes, Status::Usage, "", "");
             Status::Usage
         }
+        Err(AllocError) => run_without_words(notes),
     }
 }
 
 /// The answer where the words themselves could not be had for want of memory.
 pub fn run_without_words<N: Sink>(notes: &mut N) -> Status
     ensures status { result ≡ Status.NoMemory }
-    ensures notes { Alike (N.bytes notes.old) (N.bytes notes.new)
-        (Noted (note_of None result) (N.faults notes.old) (N.faults notes.new)) }
+    ensures notes { Noted N.bytes N.faults (note_of None result) notes.old notes.new }
 {
     note(notes, Status::NoMemory, "", "");
     Status::NoMemory

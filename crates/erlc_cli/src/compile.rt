@@ -1,12 +1,10 @@
-ghost use Rattle.std.specs.Prelude.{◌≡◌, ◌⊎◌, ◌<◌, ◌≤◌, ℕ, List, None, Err, IfOk, IfSome, length, take, drop};
-ghost use Rattle.std.specs.Option.{IsSomeAnd};
+ghost use Rattle.std.specs.Prelude.{◌≡◌, ◌<◌, ℕ, List, Some, Err, IfOk, length, take, drop};
 ghost use Rattle.erl_base.specs.declared.refusal.Refusal.{Refusal};
 ghost use Rattle.core_form.specs.Core.{Module};
 ghost use Rattle.pass_line.specs.CompileCorrect.{AcceptedText, IsCompiled};
-ghost use Rattle.store_io.specs.Causes.{Rose};
-ghost use Rattle.store_io.specs.Files.{Alike};
-ghost use Rattle.erlc_cli.specs.CompileAnswers.{IsCompileAnswer, CompileLeaves, NoRoom, not_built};
-ghost use Rattle.erlc_cli.specs.Headline.{Headline};
+ghost use Rattle.erlc_cli.specs.Actions.{compile};
+ghost use Rattle.erlc_cli.specs.Answers.{Leaves, LacksFile, CannotRead, WritesFailed, LacksRoomToWrite, IsRight};
+ghost use Rattle.erlc_cli.specs.CompileAnswers.{IsCompileAnswer, not_built};
 
 use crate::status::Status;
 use asm_text::{encoded, print};
@@ -20,14 +18,14 @@ pub fn compile_file<S: Store>(alloc: Global, store: &mut S, input: &str, output:
     requires { (s : S) → (name text : List ℕ) → (done : ℕ) → done < length text
         → S.may_append s name (take 4096 (drop done text)) }
     ensures answers { IsCompileAnswer result }
-    ensures files { Alike (S.told store.old).files (S.told store.new).files (CompileLeaves input.now output.now result) }
-    ensures absent { IfSome (S.told store.old).files (λ f. f input.now ≡ None → result ≡ Status.ReadFault) }
-    ensures read { result ≡ Status.ReadFault → Rose (S.told store.old).read_faults (S.told store.new).read_faults
-        ⊎ IsSomeAnd (S.told store.old).files (λ f. f input.now ≡ None) }
-    ensures write { result ≡ Status.WriteFault → Rose (S.told store.old).write_faults (S.told store.new).write_faults }
-    ensures no_room { IfSome (S.told store.old).rooms (λ r. IfSome (S.told store.old).files
-        (λ f. result ≡ Status.WriteFault → NoRoom input.now output.now f r)) }
-    ensures headline { Alike (S.told store.old).files (S.told store.new).files (Headline input.now output.now result (Rose (S.told store.old).read_faults (S.told store.new).read_faults) (Rose (S.told store.old).write_faults (S.told store.new).write_faults)) }
+    ensures files { Leaves (Some (compile input.now output.now)) result (S.told store.old) (S.told store.new) }
+    ensures absent { LacksFile (Some (compile input.now output.now)) (S.told store.old) → result ≡ Status.ReadFault }
+    ensures read { result ≡ Status.ReadFault
+        → CannotRead (Some (compile input.now output.now)) (S.told store.old) (S.told store.new) }
+    ensures write { result ≡ Status.WriteFault → WritesFailed (S.told store.old) (S.told store.new) }
+    ensures no_room { result ≡ Status.WriteFault
+        → LacksRoomToWrite (Some (compile input.now output.now)) (S.told store.old) }
+    ensures headline { IsRight (Some (compile input.now output.now)) result (S.told store.old) (S.told store.new) }
 {
     let text = match load_all(alloc, store, input) {
         Ok(text) => text,

@@ -1,5 +1,5 @@
-// Chains that are copied as a loop goes along them. A part comes as the call that made it answered; where one part is not
-// there, nor is the whole.
+// Chains that are copied as a loop goes along them. A part comes as the call that made it answered; where one part is
+// not there, nor is the whole.
 ghost use Rattle.std.specs.Prelude.{◌≡◌, ◌++◌, [], ◌∷◌, IfOk, IsOkAnd};
 ghost use Rattle.kernel_form.specs.declared.tree.KExpr.{KExpr};
 ghost use Rattle.kernel_form.specs.declared.tree.KExpr.TheVariants as E;

@@ -7,7 +7,8 @@ use Rattle.kernel_form.specs.declared.tree.KExpr.TheVariants as E
 use Rattle.kernel_form.specs.declared.tree.Tree.{Tree}
 use Rattle.kernel_form.specs.Chains.{in_lets, in_node, in_nodes}
 
-pub in_lets_append : (xs : List LetHead) (x : LetHead) (e : KExpr) → in_lets (xs ++ x ∷ []) e ≡ in_lets xs (E.Let x.vars x.value e)
+pub in_lets_append : (xs : List LetHead) (x : LetHead) (e : KExpr)
+    → in_lets (xs ++ x ∷ []) e ≡ in_lets xs (E.Let x.vars x.value e)
 in_lets_append [] x e = refl
 in_lets_append (y ∷ ys) x e = ap (E.Let y.vars y.value) (in_lets_append ys x e)
 

@@ -8,6 +8,7 @@ use Rattle.kernel_form.specs.declared.tree.KExpr.TheVariants as E
 use Rattle.kernel_form.specs.declared.tree.Tree.{Tree}
 use Rattle.kernel_form.specs.declared.tree.Tree.TheVariants as T
 
+-- the expression of parts
 abbrev pub expr_of : ExprParts → KExpr
 expr_of (Part.Values vs) = E.Values vs
 expr_of (Part.Simple s) = E.Simple s
@@ -17,6 +18,7 @@ expr_of (Part.Try a xs b ys c) = E.Try a xs b ys c
 expr_of (Part.Catch a) = E.Catch a
 expr_of (Part.Receive n x t v b) = E.Receive n x t v b
 
+-- the tree of parts
 abbrev pub tree_of : TreeParts → Tree
 tree_of (Piece.Body e) = T.Body e
 tree_of (Piece.Fall k) = T.Fall k

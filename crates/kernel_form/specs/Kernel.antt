@@ -1,5 +1,6 @@
 -- Kernel form as plain trees (this project's own): lets over simple steps, with decision trees in place of clauses.
--- Variables, receives and falls are numbers. A list of nodes is a family of its own, `no_..` or `and_..` an item and the rest.
+-- Variables, receives and falls are numbers. A list of nodes is a family of its own, `no_..` or `and_..` an item and
+-- the rest.
 use Rattle.std.specs.Prelude.{ℕ, Bool, List}
 use Rattle.erl_base.specs.Names.{Name}
 use Rattle.erl_base.specs.declared.ids.FunKey.{FunKey}
@@ -7,6 +8,7 @@ use Rattle.erl_term.specs.Term.{Term}
 use Rattle.erl_term.specs.Segments as Segments
 use Rattle.bif_table.specs.Builtins.{Bif}
 
+-- a variable by its number, or a literal
 pub data Value : Type 0 where
   var : ℕ → Value
   lit : Term → Value
@@ -76,11 +78,11 @@ mutual
     and_seg : Seg → Segs → Segs
 
 -- what a term may have the shape of: a term itself, a list cell, a tuple of a size, a map with a key
-pub data Shape : Type 0 where
-  is : Term → Shape
-  is_cons : Shape
-  is_tuple : ℕ → Shape
-  map_has : Value → Shape
+pub data CaseShape : Type 0 where
+  is : Term → CaseShape
+  is_cons : CaseShape
+  is_tuple : ℕ → CaseShape
+  map_has : Value → CaseShape
 
 -- a step on bits; the contexts that it reads and moves on are variables
 pub data BinStep : Type 0 where
@@ -121,7 +123,7 @@ mutual
 
   -- a shape, the variables of its parts, and the tree for it
   pub data Case : Type 0 where
-    case : Shape → List ℕ → Tree → Case
+    case : CaseShape → List ℕ → Tree → Case
 
   pub data Cases : Type 0 where
     no_case : Cases
@@ -148,6 +150,7 @@ pub record Fun : Type 0 where
   pub next : ℕ
   pub body : Expr
 
+-- a module in kernel form
 pub record Kernel : Type 0 where
   pub name : Name
   pub exports : List FunKey

@@ -15,12 +15,20 @@ use Rattle.kernel_meaning.specs.Agreement.{OptionAgrees, TriedAgrees}
 -- States.
 
 pub same_state : (s : State) → SameState s s
-same_state s = record { replies = refl; mailbox = refl; next = refl; left = refl; done = refl; sub_binaries = omega arith }
+same_state s = record {
+  replies = refl;
+  mailbox = refl;
+  next = refl;
+  left = refl;
+  done = refl;
+  sub_binaries = omega arith;
+}
 
 -- what both runs note last, and what they note of sub-binaries
 joined : (s t : State) (ns ms : List Note) → SameState s t → done ms ≡ done ns → sub_binaries ms ≤ sub_binaries ns →
     SameState (record s { notes = ns }) (record t { notes = ms })
-joined s t ns ms e d l = record { replies = e.replies; mailbox = e.mailbox; next = e.next; left = e.left; done = d; sub_binaries = l }
+joined s t ns ms e d l =
+    record { replies = e.replies; mailbox = e.mailbox; next = e.next; left = e.left; done = d; sub_binaries = l }
 
 more_cuts : (m n i j : ℕ) → n ≤ m → i ≤ j → n + i ≤ m + j
 more_cuts m n i j g h = omega arith
@@ -56,7 +64,8 @@ module _ {A : Type 0} where
   cutting_agrees m n f g l h s t e = h _ _ (cut_less m n s t l e)
 
 module _ {A B : Type 0} where
-  after_agrees : (s t : State) (o p : Outcome A) (f g : A → M B) → SameState s t → p ≡ o → ((a : A) → Agree (f a) (g a)) → SameResult (after s o f) (after t p g)
+  after_agrees : (s t : State) (o p : Outcome A) (f g : A → M B) → SameState s t → p ≡ o → ((a : A) → Agree (f a) (g a))
+      → SameResult (after s o f) (after t p g)
   after_agrees s t o p f g e q h = subst (λ x. SameResult (after s o f) (after t x g)) (sym q) (go o)
     where
       go : (o : Outcome A) → SameResult (after s o f) (after t o g)
@@ -68,7 +77,9 @@ module _ {A B : Type 0} where
   pub bind_agrees : (m k : M A) (f g : A → M B) → Agree m k → ((a : A) → Agree (f a) (g a)) → Agree (m >>= f) (k >>= g)
   bind_agrees m k f g h i s t e = after_agrees (m s).0 (k t).0 (m s).1 (k t).1 f g (h s t e).state (h s t e).end i
 
-  ends_agree : (s t : State) (o p : Outcome A) (f g : A → M B) (u v : Class → Term → M B) → SameState s t → p ≡ o → ((a : A) → Agree (f a) (g a)) → ((c : Class) (r : Term) → Agree (u c r) (v c r)) → SameResult (ends s o f u) (ends t p g v)
+  ends_agree : (s t : State) (o p : Outcome A) (f g : A → M B) (u v : Class → Term → M B) → SameState s t → p ≡ o
+      → ((a : A) → Agree (f a) (g a)) → ((c : Class) (r : Term) → Agree (u c r) (v c r))
+      → SameResult (ends s o f u) (ends t p g v)
   ends_agree s t o p f g u v e q h i = subst (λ x. SameResult (ends s o f u) (ends t x g v)) (sym q) (go o)
     where
       go : (o : Outcome A) → SameResult (ends s o f u) (ends t o g v)
@@ -77,11 +88,14 @@ module _ {A B : Type 0} where
       go (waits q) = record { state = e; end = refl }
       go spent = record { state = e; end = refl }
 
-  pub either_agrees : (m k : M A) (f g : A → M B) (u v : Class → Term → M B) → Agree m k → ((a : A) → Agree (f a) (g a)) → ((c : Class) (r : Term) → Agree (u c r) (v c r)) → Agree (either m f u) (either k g v)
-  either_agrees m k f g u v h i j s t e = ends_agree (m s).0 (k t).0 (m s).1 (k t).1 f g u v (h s t e).state (h s t e).end i j
+  pub either_agrees : (m k : M A) (f g : A → M B) (u v : Class → Term → M B) → Agree m k → ((a : A) → Agree (f a) (g a))
+      → ((c : Class) (r : Term) → Agree (u c r) (v c r)) → Agree (either m f u) (either k g v)
+  either_agrees m k f g u v h i j s t e =
+      ends_agree (m s).0 (k t).0 (m s).1 (k t).1 f g u v (h s t e).state (h s t e).end i j
 
 -- an answer joins the state
-pub answered_same : (q : Request) (r : Reply) (rs : List Reply) (s t : State) → SameState s t → SameState (answered q r rs s) (answered q r rs t)
+pub answered_same : (q : Request) (r : Reply) (rs : List Reply) (s t : State) → SameState s t
+    → SameState (answered q r rs s) (answered q r rs t)
 answered_same q r rs s t e = record {
   replies = refl;
   mailbox = λ i. e.mailbox i ++ numbered (e.next i) r.arrivals;
@@ -99,17 +113,26 @@ ask_agrees q s t e = subst (λ x. SameResult (ask_from q s.replies s) (ask_from 
     go (r ∷ rs) = record { state = answered_same q r rs s t e; end = refl }
 
 pub left_agrees : {A : Type 0} (e : _) (m k : M A) → Agree m k → Agree (counted e m) (counted e k)
-left_agrees x m k h s t e = subst (λ n. SameResult (entry_left s.left x m s) (entry_left n x k t)) (sym e.left) (go s.left)
+left_agrees x m k h s t e =
+    subst (λ n. SameResult (entry_left s.left x m s) (entry_left n x k t)) (sym e.left) (go s.left)
   where
     go : (n : ℕ) → SameResult (entry_left n x m s) (entry_left n x k t)
     go zero = record { state = e; end = refl }
     go (suc n) = h _ _ (noted_same (entered x) (record s { left = n }) (record t { left = n })
-        (record { replies = e.replies; mailbox = e.mailbox; next = e.next; left = refl; done = e.done; sub_binaries = e.sub_binaries }))
+        (record {
+          replies = e.replies;
+          mailbox = e.mailbox;
+          next = e.next;
+          left = refl;
+          done = e.done;
+          sub_binaries = e.sub_binaries;
+        }))
 
 -- Clauses.
 
 module _ {A : Type 0} where
-  taking_agrees : (x : Message) (o p : Option (M A)) (m k : M A) → OptionAgrees o p → Agree m k → Agree (taking x o m) (taking x p k)
+  taking_agrees : (x : Message) (o p : Option (M A)) (m k : M A) → OptionAgrees o p → Agree m k
+      → Agree (taking x o m) (taking x p k)
   unfolding OptionAgrees
   taking_agrees x None None m k a h = λ s t e. h _ _ (noted_same _ s t e)
   taking_agrees x None (Some q) m k a h = absurd a
@@ -143,7 +166,8 @@ module _ {A : Type 0} where
       timed_agrees wrong w v h = fail_agrees _ _
 
       delayed_agrees : (d : Delay) (w v : M A) → Agree w v →
-          Agree (elim d as (λ _. M A) [ forever ↦ w | millis n ↦ l ]) (elim d as (λ _. M A) [ forever ↦ v | millis n ↦ r ])
+          Agree (elim d as (λ _. M A) [ forever ↦ w | millis n ↦ l ])
+          (elim d as (λ _. M A) [ forever ↦ v | millis n ↦ r ])
       delayed_agrees forever w v h = h
       delayed_agrees (millis n) w v h = late
 
@@ -152,7 +176,8 @@ module _ {A : Type 0} where
         looking_agrees [] = waits_agrees W.look
         looking_agrees (x ∷ xs) = λ s t e.
             new_or_agrees x.arrivals _ _ _ _ (timed_agrees z _ _ (λ d. waiting_agrees xs d))
-            (subst (λ n. Agree (try_each p (numbered s.next x.arrivals) (looking p z l xs)) (try_each q (numbered n x.arrivals) (looking q z r xs))) (sym e.next)
+            (subst (λ n. Agree (try_each p (numbered s.next x.arrivals) (looking p z l xs))
+            (try_each q (numbered n x.arrivals) (looking q z r xs))) (sym e.next)
             (try_each_agrees (numbered s.next x.arrivals) _ _ (looking_agrees xs)))
             _ _ (answered_same W.look x xs s t e)
 
@@ -160,7 +185,8 @@ module _ {A : Type 0} where
         waiting_agrees [] d = waits_agrees (W.wait d)
         waiting_agrees (x ∷ xs) d = λ s t e.
             new_or_agrees x.arrivals _ _ _ _ (delayed_agrees d _ _ (looking_agrees xs))
-            (subst (λ n. Agree (try_each p (numbered s.next x.arrivals) (looking p z l xs)) (try_each q (numbered n x.arrivals) (looking q z r xs))) (sym e.next)
+            (subst (λ n. Agree (try_each p (numbered s.next x.arrivals) (looking p z l xs))
+            (try_each q (numbered n x.arrivals) (looking q z r xs))) (sym e.next)
             (try_each_agrees (numbered s.next x.arrivals) _ _ (looking_agrees xs)))
             _ _ (answered_same (W.wait d) x xs s t e)
 
@@ -170,4 +196,5 @@ module _ {A : Type 0} where
         (try_each_agrees s.mailbox _ _ at_end s t e)
       where
         at_end : Agree (λ u. looking p z l u.replies u) (λ u. looking q z r u.replies u)
-        at_end u v f = subst (λ rs. SameResult (looking p z l u.replies u) (looking q z r rs v)) (sym f.replies) (looking_agrees z l r h u.replies u v f)
+        at_end u v f = subst (λ rs. SameResult (looking p z l u.replies u) (looking q z r rs v)) (sym f.replies)
+            (looking_agrees z l r h u.replies u v f)

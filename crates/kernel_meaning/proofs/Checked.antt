@@ -17,8 +17,11 @@ gives_one v = body (values (v ∷ []))
 -- a call, a receive and a switch with two alternatives
 abbrev whole : Expr
 whole = let_in (1 ∷ []) (simple (K.remote (lit (T.atom (codes "erlang"))) (lit (T.atom (codes "make_ref"))) []))
-    (let_in (2 ∷ []) (match_in (either_in 0 (switch 0 (and_case (case K.is_cons (3 ∷ 4 ∷ []) (gives_one (var 3))) no_case) (fall 0)) (gives_one (var 1))))
-    (receive 7 5 (switch 5 (and_case (case (K.is (int 1)) [] (gives_one (var 2))) no_case) (fall 0)) (lit (int 0)) (values (var 1 ∷ []))))
+    (let_in (2 ∷ []) (match_in
+    (either_in 0 (switch 0 (and_case (case K.is_cons (3 ∷ 4 ∷ []) (gives_one (var 3))) no_case) (fall 0))
+    (gives_one (var 1))))
+    (receive 7 5 (switch 5 (and_case (case (K.is (int 1)) [] (gives_one (var 2))) no_case) (fall 0)) (lit (int 0))
+    (values (var 1 ∷ []))))
 
 whole_gives_one : gives whole 1 ≡ true
 whole_gives_one = refl
@@ -55,13 +58,22 @@ context_read_as_a_term : scoped (match_in (step (K.start 0 1) (gives_one (var 1)
 context_read_as_a_term = refl
 
 -- a position is no context, and belongs to the context that it was taken of
-position_read_as_a_context : scoped (match_in (step (K.start 0 1) (step (K.mark 1 2) (step (K.done 2) (gives_one (var 0)) (gives_one (var 0))) (gives_one (var 0))) (gives_one (var 0)))) (0 ∷ []) ≡ false
+position_read_as_a_context : scoped
+    (match_in (step (K.start 0 1)
+    (step (K.mark 1 2) (step (K.done 2) (gives_one (var 0)) (gives_one (var 0))) (gives_one (var 0)))
+    (gives_one (var 0)))) (0 ∷ []) ≡ false
 position_read_as_a_context = refl
 
-back_in_its_context : scoped (match_in (step (K.start 0 1) (step (K.mark 1 2) (step (K.back 1 2) (gives_one (var 0)) (gives_one (var 0))) (gives_one (var 0))) (gives_one (var 0)))) (0 ∷ []) ≡ true
+back_in_its_context : scoped
+    (match_in (step (K.start 0 1)
+    (step (K.mark 1 2) (step (K.back 1 2) (gives_one (var 0)) (gives_one (var 0))) (gives_one (var 0)))
+    (gives_one (var 0)))) (0 ∷ []) ≡ true
 back_in_its_context = refl
 
-back_in_another_context : scoped (match_in (step (K.start 0 1) (step (K.start 0 3) (step (K.mark 1 2) (step (K.back 3 2) (gives_one (var 0)) (gives_one (var 0))) (gives_one (var 0))) (gives_one (var 0))) (gives_one (var 0)))) (0 ∷ []) ≡ false
+back_in_another_context : scoped
+    (match_in (step (K.start 0 1)
+    (step (K.start 0 3) (step (K.mark 1 2) (step (K.back 3 2) (gives_one (var 0)) (gives_one (var 0)))
+    (gives_one (var 0))) (gives_one (var 0))) (gives_one (var 0)))) (0 ∷ []) ≡ false
 back_in_another_context = refl
 
 -- segments that are no steps yet
@@ -69,20 +81,26 @@ segments_left : everywhere (λ e. true) is_by_steps (match_in (K.segments 0 no_r
 segments_left = refl
 
 -- guards that call, send and catch
-guard_that_calls : everywhere (λ e. true) has_silent_guard (match_in (K.guarded (simple (K.local 0 [])) (gives_one (var 0)) (gives_one (var 0)))) ≡ false
+guard_that_calls : everywhere (λ e. true) has_silent_guard
+    (match_in (K.guarded (simple (K.local 0 [])) (gives_one (var 0)) (gives_one (var 0)))) ≡ false
 guard_that_calls = refl
 
-guard_that_sends : everywhere (λ e. true) has_silent_guard (match_in (K.guarded (let_in (1 ∷ []) (simple (K.send (var 0) (var 0))) (values (var 1 ∷ []))) (gives_one (var 0)) (gives_one (var 0)))) ≡ false
+guard_that_sends : everywhere (λ e. true) has_silent_guard
+    (match_in (K.guarded (let_in (1 ∷ []) (simple (K.send (var 0) (var 0))) (values (var 1 ∷ []))) (gives_one (var 0))
+    (gives_one (var 0)))) ≡ false
 guard_that_sends = refl
 
-guard_that_catches : everywhere (λ e. true) has_silent_guard (match_in (K.guarded (K.catch (values (var 0 ∷ []))) (gives_one (var 0)) (gives_one (var 0)))) ≡ false
+guard_that_catches : everywhere (λ e. true) has_silent_guard
+    (match_in (K.guarded (K.catch (values (var 0 ∷ []))) (gives_one (var 0)) (gives_one (var 0)))) ≡ false
 guard_that_catches = refl
 
 -- a call in the body behind a guard is none in the guard
-body_that_calls : everywhere (λ e. true) has_silent_guard (match_in (K.guarded (values (var 0 ∷ [])) (body (simple (K.local 0 []))) (gives_one (var 0)))) ≡ true
+body_that_calls : everywhere (λ e. true) has_silent_guard
+    (match_in (K.guarded (values (var 0 ∷ [])) (body (simple (K.local 0 []))) (gives_one (var 0)))) ≡ true
 body_that_calls = refl
 
--- a cell has two tests and two parts, a guard the variable of its let and its two steps; what the bodies bind is left out
+-- a cell has two tests and two parts, a guard the variable of its let and its two steps; what the bodies bind is left
+-- out
 window_of_a_tree : window (switch 0 (and_case (case K.is_cons (1 ∷ 2 ∷ []) (K.guarded
     (let_in (3 ∷ []) (simple (K.cons (var 1) (var 2))) (simple (K.cons (var 3) (var 3))))
     (body (let_in (4 ∷ []) (values (var 1 ∷ [])) (values (var 4 ∷ [])))) (fall 0))) no_case) (fall 0)) ≡ 7
@@ -90,7 +108,9 @@ window_of_a_tree = refl
 
 -- tuples of 1,018 and of 1,019 parts
 abbrev receives_tuple : ℕ → Expr
-receives_tuple n = receive 0 1 (switch 1 (and_case (case (K.is_tuple n) (replicate n 2) (gives_one (var 1))) no_case) (fall 0)) (lit (int 0)) (values [])
+receives_tuple n = receive 0 1
+    (switch 1 (and_case (case (K.is_tuple n) (replicate n 2) (gives_one (var 1))) no_case) (fall 0))
+    (lit (int 0)) (values [])
 
 window_that_fits : window_fits (receives_tuple 1018) ≡ true
 window_that_fits = refl
@@ -104,13 +124,17 @@ call_with_one_argument = refl
 
 -- a literal list beside a cell; a second switch on the variable
 literal_beside_a_cell : everywhere (λ e. true) switch_fits
-    (match_in (switch 0 (and_case (case (K.is (T.cons (int 1) T.nil)) [] (gives_one (var 0))) (and_case (case K.is_cons (1 ∷ 2 ∷ []) (gives_one (var 1))) no_case)) (gives_one (var 0)))) ≡ false
+    (match_in (switch 0 (and_case (case (K.is (T.cons (int 1) T.nil)) [] (gives_one (var 0)))
+    (and_case (case K.is_cons (1 ∷ 2 ∷ []) (gives_one (var 1))) no_case)) (gives_one (var 0)))) ≡ false
 literal_beside_a_cell = refl
 
 switch_after_switch : everywhere (λ e. true) switch_fits
-    (match_in (switch 0 (and_case (case (K.is (int 1)) [] (gives_one (var 0))) no_case) (switch 0 (and_case (case (K.is (int 2)) [] (gives_one (var 0))) no_case) (gives_one (var 0))))) ≡ false
+    (match_in (switch 0 (and_case (case (K.is (int 1)) [] (gives_one (var 0))) no_case)
+    (switch 0 (and_case (case (K.is (int 2)) [] (gives_one (var 0))) no_case) (gives_one (var 0))))) ≡ false
 switch_after_switch = refl
 
 switch_after_a_key : everywhere (λ e. true) switch_fits
-    (match_in (switch 0 (and_case (case (K.map_has (lit (int 1))) (1 ∷ []) (gives_one (var 1))) no_case) (switch 0 (and_case (case (K.map_has (lit (int 2))) (2 ∷ []) (gives_one (var 2))) no_case) (gives_one (var 0))))) ≡ true
+    (match_in (switch 0 (and_case (case (K.map_has (lit (int 1))) (1 ∷ []) (gives_one (var 1))) no_case)
+    (switch 0 (and_case (case (K.map_has (lit (int 2))) (2 ∷ []) (gives_one (var 2))) no_case) (gives_one (var 0)))))
+    ≡ true
 switch_after_a_key = refl

@@ -31,7 +31,12 @@ abbrev function : ℕ → Expr → Fun
 function n e = record { key = record { name = codes "f"; arity = 1 }; site = n; params = 0 ∷ []; next = 100; body = e }
 
 abbrev module_of : List Fun → Kernel
-module_of fs = record { name = codes "m"; exports = record { name = codes "f"; arity = 1 } ∷ []; attributes = []; funs = fs }
+module_of fs = record {
+  name = codes "m";
+  exports = record { name = codes "f"; arity = 1 } ∷ [];
+  attributes = [];
+  funs = fs;
+}
 
 abbrev plain : List Fun → Setting
 plain fs = record { widths = widths fs; marks = []; handed = [] }
@@ -46,7 +51,8 @@ abbrev of_one : Expr → Term → Result
 of_one e t = run_with (function 0 e ∷ []) t (script [] [])
 
 abbrev ended : List Happening → List Entry → List Looked → List ℕ → ℕ → Outcome Term → Result
-ended hs es ls ns n end = record { happenings = hs; entries = es; looks = ls; marks = []; examined = ns; subs = n; end = end }
+ended hs es ls ns n end =
+    record { happenings = hs; entries = es; looks = ls; marks = []; examined = ns; subs = n; end = end }
 
 abbrev only_gives : Term → Result
 only_gives t = ended [] [] [] [] 0 (gives t)
@@ -60,21 +66,26 @@ brings ts = record { arrivals = ts; how = W.return; term = a (codes "ok") }
 -- {a,X} gives {1,X}; any Y gives {2,Y}; {b,X} gives {3,X}: the second alternative takes what falls out of the first
 abbrev three_clauses : Expr
 three_clauses = match_in (either_in 0
-    (switch 0 (and_case (case (K.is_tuple 2) (1 ∷ 2 ∷ []) (switch 1 (and_case (case (K.is (a (codes "a"))) [] (with_number 1 (var 2))) no_case) (fall 0))) no_case) (fall 0))
+    (switch 0 (and_case (case (K.is_tuple 2) (1 ∷ 2 ∷ [])
+    (switch 1 (and_case (case (K.is (a (codes "a"))) [] (with_number 1 (var 2))) no_case) (fall 0))) no_case)
+    (fall 0))
     (either_in 1 (with_number 2 (var 0)) (with_number 3 (var 0))))
 
-first_clause_wins_second : of_one three_clauses (tagged (codes "b") (int 1)) ≡ only_gives (T.tuple (terms (int 2 ∷ tagged (codes "b") (int 1) ∷ [])))
+first_clause_wins_second : of_one three_clauses (tagged (codes "b") (int 1))
+    ≡ only_gives (T.tuple (terms (int 2 ∷ tagged (codes "b") (int 1) ∷ [])))
 unfolding kernel_run
 first_clause_wins_second = refl
 
-first_clause_wins_first : of_one three_clauses (tagged (codes "a") (int 5)) ≡ only_gives (T.tuple (terms (int 1 ∷ int 5 ∷ [])))
+first_clause_wins_first : of_one three_clauses (tagged (codes "a") (int 5))
+    ≡ only_gives (T.tuple (terms (int 1 ∷ int 5 ∷ [])))
 unfolding kernel_run
 first_clause_wins_first = refl
 
 -- a guard that divides by zero does not hold
 abbrev raising_guard : Expr
 raising_guard = match_in (guarded
-    (let_in (1 ∷ []) (simple (K.bif Div (lit (int 1) ∷ var 0 ∷ []))) (simple (K.bif Exactly (var 1 ∷ lit (int 1) ∷ []))))
+    (let_in (1 ∷ []) (simple (K.bif Div (lit (int 1) ∷ var 0 ∷ [])))
+    (simple (K.bif Exactly (var 1 ∷ lit (int 1) ∷ []))))
     (gives_one (lit (a (codes "one")))) (gives_one (lit (a (codes "other")))))
 
 raising_guard_does_not_hold : of_one raising_guard (int 0) ≡ only_gives (a (codes "other"))
@@ -89,11 +100,13 @@ guard_that_holds = refl
 
 abbrev takes_ok : Value → Expr
 takes_ok timeout = receive 0 1
-    (switch 1 (and_case (case (K.is_tuple 2) (2 ∷ 3 ∷ []) (switch 2 (and_case (case (K.is (a (codes "ok"))) [] (gives_one (var 3))) no_case) (fall 9))) no_case) (fall 9))
+    (switch 1 (and_case (case (K.is_tuple 2) (2 ∷ 3 ∷ [])
+    (switch 2 (and_case (case (K.is (a (codes "ok"))) [] (gives_one (var 3))) no_case) (fall 9))) no_case) (fall 9))
     timeout (values (lit (a (codes "late")) ∷ []))
 
 -- with timeout zero it looks once; a fall with no alternative goes on with the next message
-receive_with_timeout_zero : run_with (function 0 (takes_ok (lit (int 0))) ∷ []) (int 0) (script (int 7 ∷ []) (brings [] ∷ []))
+receive_with_timeout_zero : run_with (function 0 (takes_ok (lit (int 0))) ∷ []) (int 0)
+    (script (int 7 ∷ []) (brings [] ∷ []))
     ≡ ended (asked W.look (brings []) ∷ []) [] (look 0 false ∷ []) (0 ∷ []) 0 (gives (a (codes "late")))
 unfolding kernel_run
 receive_with_timeout_zero = refl
@@ -101,7 +114,8 @@ receive_with_timeout_zero = refl
 -- it waits until a message comes that it accepts; what it passes over stays
 receive_that_waits : run_with (function 0 (takes_ok (lit (int 5))) ∷ []) (int 0)
     (script (int 7 ∷ []) (brings [] ∷ brings (int 8 ∷ tagged (codes "ok") (int 9) ∷ []) ∷ []))
-    ≡ ended (asked W.look (brings []) ∷ asked (W.wait (millis 5)) (brings (int 8 ∷ tagged (codes "ok") (int 9) ∷ [])) ∷ taken 2 ∷ [])
+    ≡ ended (asked W.look (brings []) ∷ asked (W.wait (millis 5)) (brings (int 8 ∷ tagged (codes "ok") (int 9) ∷ []))
+    ∷ taken 2 ∷ [])
     [] (look 0 false ∷ look 1 false ∷ look 2 true ∷ []) (0 ∷ 1 ∷ 2 ∷ []) 0 (gives (int 9))
 unfolding kernel_run
 receive_that_waits = refl
@@ -130,13 +144,15 @@ abbrev eight : List Bool
 eight = true ∷ true ∷ true ∷ true ∷ false ∷ false ∷ false ∷ false ∷ []
 
 -- 1, the byte, and one bit that is left; both parts are made
-segments_with_sizes : of_one split_by_size (T.bits (false ∷ false ∷ false ∷ true ∷ true ∷ true ∷ true ∷ true ∷ false ∷ false ∷ false ∷ false ∷ true ∷ []))
+segments_with_sizes : of_one split_by_size
+    (T.bits (false ∷ false ∷ false ∷ true ∷ true ∷ true ∷ true ∷ true ∷ false ∷ false ∷ false ∷ false ∷ true ∷ []))
     ≡ ended [] [] [] [] 2 (gives (T.tuple (terms (T.bits eight ∷ T.bits (true ∷ []) ∷ []))))
 unfolding kernel_run
 segments_with_sizes = refl
 
 -- two bytes are wanted, and fewer are there
-segments_that_fail : of_one split_by_size (T.bits (false ∷ false ∷ true ∷ false ∷ true ∷ [])) ≡ only_gives (a (codes "none"))
+segments_that_fail : of_one split_by_size (T.bits (false ∷ false ∷ true ∷ false ∷ true ∷ []))
+    ≡ only_gives (a (codes "none"))
 unfolding kernel_run
 segments_that_fail = refl
 
@@ -146,7 +162,8 @@ goes_back = match_in (step (K.start 0 1) (step (K.mark 1 2)
     (either_in 5
     (step (K.integer 1 (seg (K.known (int 1)) (lit (int 8)) number_shape)) (gives_one (lit (a (codes "one")))) (fall 5))
     (step (K.back 1 2)
-    (step (K.integer 1 (seg (K.bind 3) (lit (int 8)) number_shape)) (step (K.done 1) (gives_one (var 3)) (gives_one (lit (a (codes "more"))))) (fall 6))
+    (step (K.integer 1 (seg (K.bind 3) (lit (int 8)) number_shape))
+    (step (K.done 1) (gives_one (var 3)) (gives_one (lit (a (codes "more"))))) (fall 6))
     (fall 6)))
     (fall 6)) (gives_one (lit (a (codes "no_bits")))))
 
@@ -162,7 +179,8 @@ steps_want_bits = refl
 
 abbrev nested_falls : Expr
 nested_falls = match_in (either_in 1
-    (either_in 1 (switch 0 (and_case (case (K.is (int 1)) [] (fall 1)) (and_case (case (K.is (int 2)) [] (fall 2)) no_case)) (gives_one (lit (a (codes "last")))))
+    (either_in 1 (switch 0 (and_case (case (K.is (int 1)) [] (fall 1))
+    (and_case (case (K.is (int 2)) [] (fall 2)) no_case)) (gives_one (lit (a (codes "last")))))
     (gives_one (lit (a (codes "inner")))))
     (gives_one (lit (a (codes "outer")))))
 
@@ -188,7 +206,8 @@ two_functions =
     ∷ record (function 2 (simple (K.cons (var 0) (var 1)))) { params = 0 ∷ 1 ∷ [] } ∷ []
 
 calls_of_functions_and_funs : run_with two_functions (int 3) (script [] [])
-    ≡ ended [] (record { site = 1; tail = true } ∷ record { site = 2; tail = false } ∷ []) [] [] 0 (gives (T.cons (int 7) (int 3)))
+    ≡ ended [] (record { site = 1; tail = true } ∷ record { site = 2; tail = false } ∷ []) [] [] 0
+    (gives (T.cons (int 7) (int 3)))
 unfolding kernel_run
 calls_of_functions_and_funs = refl
 
@@ -196,7 +215,8 @@ calls_of_functions_and_funs = refl
 
 abbrev divides : Expr
 divides = receive 0 1
-    (guarded (let_in (2 ∷ []) (simple (K.bif Div (lit (int 1) ∷ var 1 ∷ []))) (simple (K.bif Exactly (var 2 ∷ lit (int 1) ∷ []))))
+    (guarded (let_in (2 ∷ []) (simple (K.bif Div (lit (int 1) ∷ var 1 ∷ [])))
+    (simple (K.bif Exactly (var 2 ∷ lit (int 1) ∷ []))))
     (gives_one (var 1)) (fall 0))
     (lit (int 0)) (values (lit (a (codes "none")) ∷ []))
 
@@ -210,16 +230,18 @@ guard_that_takes_nothing : run_with (function 0 divides ∷ []) (int 0) (script 
 unfolding kernel_run
 guard_that_takes_nothing = refl
 
--- A monitor, and the receive of its message by the reference: with the receive marked, the 1,000 messages before it are not
--- examined.
+-- A monitor, and the receive of its message by the reference: with the receive marked, the 1,000 messages before it are
+-- not examined.
 
 abbrev watches : Expr
-watches = let_in (1 ∷ []) (simple (K.remote (lit (a (codes "erlang"))) (lit (a (codes "monitor"))) (lit (a (codes "process")) ∷ var 0 ∷ [])))
+watches = let_in (1 ∷ [])
+    (simple (K.remote (lit (a (codes "erlang"))) (lit (a (codes "monitor"))) (lit (a (codes "process")) ∷ var 0 ∷ [])))
     (receive 0 2
     (switch 2 (and_case (case (K.is_tuple 5) (3 ∷ 4 ∷ 5 ∷ 6 ∷ 7 ∷ [])
     (switch 3 (and_case (case (K.is (a (codes "DOWN"))) []
     (switch 5 (and_case (case (K.is (a (codes "process"))) []
-    (guarded (simple (K.bif Exactly (var 4 ∷ var 1 ∷ []))) (gives_one (var 7)) (fall 0))) no_case) (fall 0))) no_case) (fall 0))) no_case) (fall 0))
+    (guarded (simple (K.bif Exactly (var 4 ∷ var 1 ∷ []))) (gives_one (var 7)) (fall 0))) no_case) (fall 0))) no_case)
+    (fall 0))) no_case) (fall 0))
     (lit (a (codes "infinity"))) (values (lit (a (codes "true")) ∷ [])))
 
 abbrev watched : Term
@@ -227,7 +249,8 @@ watched = T.pid 7
 
 abbrev down : Reply
 down = record {
-  arrivals = T.tuple (terms (a (codes "DOWN") ∷ T.reference 9 ∷ a (codes "process") ∷ watched ∷ a (codes "gone") ∷ [])) ∷ [];
+  arrivals = T.tuple (terms
+      (a (codes "DOWN") ∷ T.reference 9 ∷ a (codes "process") ∷ watched ∷ a (codes "gone") ∷ [])) ∷ [];
   how = W.return;
   term = T.reference 9;
 }

@@ -38,17 +38,21 @@ answers_agree : (a : Answer) → Agree (answers a) (answers a)
 answers_agree (value t) = single_agrees t
 answers_agree (raised c r) = fail_agrees c r
 
-how_agrees : (h : W.How) (a b c d : M Values) → Agree a a → Agree b b → Agree c c → Agree d d → Agree (elim h as (λ _. M Values) [ W.return ↦ a | W.error ↦ b | W.exit ↦ c | W.throw ↦ d ]) (elim h as (λ _. M Values) [ W.return ↦ a | W.error ↦ b | W.exit ↦ c | W.throw ↦ d ])
+how_agrees : (h : W.How) (a b c d : M Values) → Agree a a → Agree b b → Agree c c → Agree d d
+    → Agree (elim h as (λ _. M Values) [ W.return ↦ a | W.error ↦ b | W.exit ↦ c | W.throw ↦ d ])
+    (elim h as (λ _. M Values) [ W.return ↦ a | W.error ↦ b | W.exit ↦ c | W.throw ↦ d ])
 how_agrees W.return a b c d h i j k = h
 how_agrees W.error a b c d h i j k = i
 how_agrees W.exit a b c d h i j k = j
 how_agrees W.throw a b c d h i j k = k
 
 call_out_agrees : (m f : Name) (vs : Values) → Agree (call_out m f vs) (call_out m f vs)
-call_out_agrees m f vs = bind_agrees _ _ _ _ (ask_agrees _) (λ r. how_agrees r.how _ _ _ _ (single_agrees r.term) (fail_agrees _ _) (fail_agrees _ _) (fail_agrees _ _))
+call_out_agrees m f vs = bind_agrees _ _ _ _ (ask_agrees _)
+    (λ r. how_agrees r.how _ _ _ _ (single_agrees r.term) (fail_agrees _ _) (fail_agrees _ _) (fail_agrees _ _))
 
 send_to_agrees : (t u : Term) → Agree (send_to t u) (send_to t u)
-send_to_agrees t u = bind_agrees _ _ _ _ (ask_agrees _) (λ r. how_agrees r.how _ _ _ _ (single_agrees u) (fail_agrees _ _) (fail_agrees _ _) (fail_agrees _ _))
+send_to_agrees t u = bind_agrees _ _ _ _ (ask_agrees _)
+    (λ r. how_agrees r.how _ _ _ _ (single_agrees u) (fail_agrees _ _) (fail_agrees _ _) (fail_agrees _ _))
 
 send_or_call_agrees : (f : Name) (vs : Values) → Agree (send_or_call f vs) (send_or_call f vs)
 send_or_call_agrees f [] = call_out_agrees _ f []
@@ -64,7 +68,8 @@ exit_agrees T.throw r = single_agrees r
 exit_agrees T.exit r = single_agrees _
 exit_agrees T.error r = bind_agrees _ _ _ _ (ask_agrees _) (λ t. single_agrees _)
 
-if_agrees : {A : Type 0} (b : Bool) (m k n l : M A) → Agree m n → Agree k l → Agree (if b then m else k) (if b then n else l)
+if_agrees : {A : Type 0} (b : Bool) (m k n l : M A) → Agree m n → Agree k l
+    → Agree (if b then m else k) (if b then n else l)
 if_agrees true m k n l h i = h
 if_agrees false m k n l h i = i
 
@@ -102,21 +107,29 @@ taken_agrees m k h = record { cuts = omega arith; body = h }
 and_cuts_agrees : (i j : ℕ) (a b : Tried Values) → j ≤ i → TriedAgrees a b → TriedAgrees (and_cuts i a) (and_cuts j b)
 and_cuts_agrees i j a b l h = record { cuts = both_most i j a.cuts b.cuts l h.cuts; body = h.body }
 
-select_agrees : (x : Bool) (a b c d : Tried Values) → TriedAgrees a c → TriedAgrees b d → TriedAgrees (select x a b) (select x c d)
+select_agrees : (x : Bool) (a b c d : Tried Values) → TriedAgrees a c → TriedAgrees b d
+    → TriedAgrees (select x a b) (select x c d)
 select_agrees true a b c d h i = h
 select_agrees false a b c d h i = i
 
-holds_agrees : (r q : State × Outcome Values) (a b c d : Tried Values) → SameResult r q → TriedAgrees a c → TriedAgrees b d → TriedAgrees (if_holds r a b) (if_holds q c d)
+holds_agrees : (r q : State × Outcome Values) (a b c d : Tried Values) → SameResult r q → TriedAgrees a c
+    → TriedAgrees b d → TriedAgrees (if_holds r a b) (if_holds q c d)
 holds_agrees r q a b c d e h i =
-    and_cuts_agrees (sub_binaries r.0.notes) (sub_binaries q.0.notes) (select (is_true r.1) a b) (select (is_true q.1) c d)
+    and_cuts_agrees (sub_binaries r.0.notes) (sub_binaries q.0.notes) (select (is_true r.1) a b)
+    (select (is_true q.1) c d)
     e.state.sub_binaries
-    (subst (λ o. TriedAgrees (select (is_true r.1) a b) (select (is_true o) c d)) (sym e.end) (select_agrees (is_true r.1) a b c d h i))
+    (subst (λ o. TriedAgrees (select (is_true r.1) a b) (select (is_true o) c d)) (sym e.end)
+    (select_agrees (is_true r.1) a b c d h i))
 
-parts_agree : (o : Option Values) (f g : Values → Tried Values) (a b : Tried Values) → ((vs : Values) → TriedAgrees (f vs) (g vs)) → TriedAgrees a b → TriedAgrees (if_there o f a) (if_there o g b)
+parts_agree : (o : Option Values) (f g : Values → Tried Values) (a b : Tried Values)
+    → ((vs : Values) → TriedAgrees (f vs) (g vs)) → TriedAgrees a b → TriedAgrees (if_there o f a) (if_there o g b)
 parts_agree None f g a b h i = i
 parts_agree (Some vs) f g a b h i = h vs
 
-bound_agrees : {X : Type 0} (o : Option X) (f g : X → Tried Values) (a b : Tried Values) → ((x : X) → TriedAgrees (f x) (g x)) → TriedAgrees a b → TriedAgrees (elim o as (λ _. Tried Values) [ None ↦ a | Some x ↦ f x ]) (elim o as (λ _. Tried Values) [ None ↦ b | Some x ↦ g x ])
+bound_agrees : {X : Type 0} (o : Option X) (f g : X → Tried Values) (a b : Tried Values)
+    → ((x : X) → TriedAgrees (f x) (g x)) → TriedAgrees a b
+    → TriedAgrees (elim o as (λ _. Tried Values) [ None ↦ a | Some x ↦ f x ])
+    (elim o as (λ _. Tried Values) [ None ↦ b | Some x ↦ g x ])
 bound_agrees None f g a b h i = i
 bound_agrees (Some x) f g a b h i = h x
 
@@ -137,7 +150,8 @@ no_falls_agree : FallsAgree no_falls no_falls
 unfolding FallsAgree
 no_falls_agree k r = none_agrees
 
-with_fall_agrees : (fs gs : Falls) (k : ℕ) (f g : Rests → Tried Values) → FallsAgree fs gs → ((r : Rests) → TriedAgrees (f r) (g r)) → FallsAgree (with_fall fs k f) (with_fall gs k g)
+with_fall_agrees : (fs gs : Falls) (k : ℕ) (f g : Rests → Tried Values) → FallsAgree fs gs
+    → ((r : Rests) → TriedAgrees (f r) (g r)) → FallsAgree (with_fall fs k f) (with_fall gs k g)
 unfolding FallsAgree
 with_fall_agrees fs gs k f g h i j r = go (eqb j k)
   where
@@ -149,7 +163,14 @@ with_fall_agrees fs gs k f g h i j r = go (eqb j k)
 
 mark_left : (x : Term) (ns : List Note) (s t : State) → SameState s t → SameState (last_mark x ns s) t
 mark_left x [] s t e = e
-mark_left x (happened (W.asked q r) ∷ ns) s t e = record { replies = e.replies; mailbox = e.mailbox; next = e.next; left = e.left; done = e.done; sub_binaries = e.sub_binaries }
+mark_left x (happened (W.asked q r) ∷ ns) s t e = record {
+  replies = e.replies;
+  mailbox = e.mailbox;
+  next = e.next;
+  left = e.left;
+  done = e.done;
+  sub_binaries = e.sub_binaries;
+}
 mark_left x (happened (W.taken n) ∷ ns) s t e = e
 mark_left x (entered n ∷ ns) s t e = e
 mark_left x (looked l ∷ ns) s t e = e
@@ -159,7 +180,14 @@ mark_left x (cut n ∷ ns) s t e = e
 
 mark_right : (x : Term) (ns : List Note) (s t : State) → SameState s t → SameState s (last_mark x ns t)
 mark_right x [] s t e = e
-mark_right x (happened (W.asked q r) ∷ ns) s t e = record { replies = e.replies; mailbox = e.mailbox; next = e.next; left = e.left; done = e.done; sub_binaries = e.sub_binaries }
+mark_right x (happened (W.asked q r) ∷ ns) s t e = record {
+  replies = e.replies;
+  mailbox = e.mailbox;
+  next = e.next;
+  left = e.left;
+  done = e.done;
+  sub_binaries = e.sub_binaries;
+}
 mark_right x (happened (W.taken n) ∷ ns) s t e = e
 mark_right x (entered n ∷ ns) s t e = e
 mark_right x (looked l ∷ ns) s t e = e
@@ -180,7 +208,8 @@ module _ (name : Name) (own : Term) (f g : ℕ → Values → M Term) (enters : 
   entering_agrees : (n : ℕ) (tail : Bool) (vs : Values) → Agree (enter_site f n tail vs) (enter_site g n tail vs)
   entering_agrees n tail vs = bind_agrees _ _ _ _ (left_agrees _ _ _ (enters n vs)) single_agrees
 
-  apply_agrees : (ws : List ℕ) (t : Term) (vs : Values) → Agree (apply_term (callees ws (here_of name own f)) t vs) (apply_term (callees ws (here_of name own g)) t vs)
+  apply_agrees : (ws : List ℕ) (t : Term) (vs : Values)
+      → Agree (apply_term (callees ws (here_of name own f)) t vs) (apply_term (callees ws (here_of name own g)) t vs)
   apply_agrees ws (T.fun m s a cs) vs =
       if_agrees _ _ _ _ _ (fail_agrees _ _) (if_agrees _ _ _ _ _ (entering_agrees s false _) (call_out_agrees _ _ _))
   apply_agrees ws (T.extern m h a) vs = if_agrees _ _ _ _ _ (fail_agrees _ _) (call_out_agrees m h vs)
@@ -190,7 +219,15 @@ module _ (name : Name) (own : Term) (f g : ℕ → Values → M Term) (enters : 
   unfolding call_erlang
   call_erlang_agrees h vs = go (lookup h (length vs))
     where
-      go : (o : Option Bif) → Agree (elim o as (λ _. M Values) [ None ↦ if is_send h then send_or_call h vs else call_out (codes "erlang") h vs | Some b ↦ answers (answer b own vs) ]) (elim o as (λ _. M Values) [ None ↦ if is_send h then send_or_call h vs else call_out (codes "erlang") h vs | Some b ↦ answers (answer b own vs) ])
+      go : (o : Option Bif) → Agree
+          (elim o as (λ _. M Values) [
+            | None ↦ if is_send h then send_or_call h vs else call_out (codes "erlang") h vs
+            | Some b ↦ answers (answer b own vs)
+          ])
+          (elim o as (λ _. M Values) [
+            | None ↦ if is_send h then send_or_call h vs else call_out (codes "erlang") h vs
+            | Some b ↦ answers (answer b own vs)
+          ])
       go None = if_agrees _ _ _ _ _ (send_or_call_agrees h vs) (call_out_agrees _ h vs)
       go (Some b) = answers_agree _
 
@@ -200,7 +237,8 @@ module _ (name : Name) (own : Term) (f g : ℕ → Values → M Term) (enters : 
   call_terms_agrees _ _ vs = fail_agrees _ _
 
   module _ (w : Setting) where
-    simply_agrees : (s : Simple) (env : Env) (tail : Bool) → Agree (simply w (here_of name own f) s env tail) (simply w (here_of name own g) s env tail)
+    simply_agrees : (s : Simple) (env : Env) (tail : Bool)
+        → Agree (simply w (here_of name own f) s env tail) (simply w (here_of name own g) s env tail)
     unfolding simply
     simply_agrees (value v) env tail = single_agrees _
     simply_agrees (cons v u) env tail = single_agrees _
@@ -220,12 +258,15 @@ module _ (name : Name) (own : Term) (f g : ℕ → Values → M Term) (enters : 
     mutual
       unfolding meaning FallsAgree
 
-      meaning_agrees : (e : Expr) (env : Env) (tail : Bool) → Agree (meaning w (here_of name own f) e env tail) (meaning w (here_of name own g) e env tail)
+      meaning_agrees : (e : Expr) (env : Env) (tail : Bool)
+          → Agree (meaning w (here_of name own f) e env tail) (meaning w (here_of name own g) e env tail)
       meaning_agrees (values vs) env tail = give_agrees _
       meaning_agrees (simple s) env tail = simply_agrees s env tail
       meaning_agrees (let_in xs a b) env tail =
-          bind_agrees _ _ _ _ (marking_agrees (is_marked w xs a) _ _ (meaning_agrees a env false)) (λ vs. meaning_agrees b (with_values env xs vs) tail)
-      meaning_agrees (match_in t) env tail = matched_agrees _ _ (tree_agrees t env no_rests tail no_falls no_falls no_falls_agree)
+          bind_agrees _ _ _ _ (marking_agrees (is_marked w xs a) _ _ (meaning_agrees a env false))
+          (λ vs. meaning_agrees b (with_values env xs vs) tail)
+      meaning_agrees (match_in t) env tail =
+          matched_agrees _ _ (tree_agrees t env no_rests tail no_falls no_falls no_falls_agree)
       meaning_agrees (try a xs b ys c) env tail =
           either_agrees _ _ _ _ _ _ (meaning_agrees a env false) (λ vs. meaning_agrees b (with_values env xs vs) tail)
           (λ k r. meaning_agrees c (with_values env ys (class_word k ∷ r ∷ T.raw_trace k ∷ [])) tail)
@@ -235,41 +276,59 @@ module _ (name : Name) (own : Term) (f g : ℕ → Values → M Term) (enters : 
           (receiving_agrees _ _ (λ m. tree_agrees t (with_value env x m) no_rests tail no_falls no_falls no_falls_agree)
           (timeout_of (read env v)) _ _ (meaning_agrees b env tail))
 
-      tree_agrees : (t : Tree) (env : Env) (r : Rests) (tail : Bool) (fs gs : Falls) → FallsAgree fs gs → TriedAgrees (tree_does w (here_of name own f) t env r tail fs) (tree_does w (here_of name own g) t env r tail gs)
+      tree_agrees : (t : Tree) (env : Env) (r : Rests) (tail : Bool) (fs gs : Falls) → FallsAgree fs gs
+          → TriedAgrees (tree_does w (here_of name own f) t env r tail fs)
+          (tree_does w (here_of name own g) t env r tail gs)
       tree_agrees (body e) env r tail fs gs h = taken_agrees _ _ (meaning_agrees e env tail)
       tree_agrees (fall k) env r tail fs gs h = h k r
       tree_agrees (either_in k a b) env r tail fs gs h =
           tree_agrees a env r tail _ _ (with_fall_agrees fs gs k _ _ h (λ q. tree_agrees b env q tail fs gs h))
-      tree_agrees (switch x cs t) env r tail fs gs h = cases_agree cs (env x) env r tail fs gs h _ _ (tree_agrees t env r tail fs gs h)
-      tree_agrees (segments x rs t) env r tail fs gs h = rows_agree rs (env x) env r tail fs gs h _ _ (tree_agrees t env r tail fs gs h)
+      tree_agrees (switch x cs t) env r tail fs gs h =
+          cases_agree cs (env x) env r tail fs gs h _ _ (tree_agrees t env r tail fs gs h)
+      tree_agrees (segments x rs t) env r tail fs gs h =
+          rows_agree rs (env x) env r tail fs gs h _ _ (tree_agrees t env r tail fs gs h)
       tree_agrees (step z a b) env r tail fs gs h =
           and_cuts_agrees _ _ _ _ (omega arith)
-          (bound_agrees (bin_step w z env r).bound _ _ _ _ (λ e. tree_agrees a e _ tail fs gs h) (tree_agrees b env _ tail fs gs h))
+          (bound_agrees (bin_step w z env r).bound _ _ _ _ (λ e. tree_agrees a e _ tail fs gs h)
+          (tree_agrees b env _ tail fs gs h))
       tree_agrees (guarded e a b) env r tail fs gs h =
-          holds_agrees _ _ _ _ _ _ (meaning_agrees e env false blank blank (same_state blank)) (tree_agrees a env r tail fs gs h) (tree_agrees b env r tail fs gs h)
+          holds_agrees _ _ _ _ _ _ (meaning_agrees e env false blank blank (same_state blank))
+          (tree_agrees a env r tail fs gs h) (tree_agrees b env r tail fs gs h)
 
-      cases_agree : (cs : Cases) (u : Term) (env : Env) (r : Rests) (tail : Bool) (fs gs : Falls) → FallsAgree fs gs → (a b : Tried Values) → TriedAgrees a b → TriedAgrees (cases_do w (here_of name own f) cs u env r tail fs a) (cases_do w (here_of name own g) cs u env r tail gs b)
+      cases_agree : (cs : Cases) (u : Term) (env : Env) (r : Rests) (tail : Bool) (fs gs : Falls) → FallsAgree fs gs
+          → (a b : Tried Values) → TriedAgrees a b
+          → TriedAgrees (cases_do w (here_of name own f) cs u env r tail fs a)
+          (cases_do w (here_of name own g) cs u env r tail gs b)
       cases_agree no_case u env r tail fs gs h a b i = i
       cases_agree (and_case (case s xs t) cs) u env r tail fs gs h a b i =
-          parts_agree (shape_parts s env u) _ _ _ _ (λ vs. tree_agrees t (with_values env xs vs) r tail fs gs h) (cases_agree cs u env r tail fs gs h a b i)
+          parts_agree (shape_parts s env u) _ _ _ _ (λ vs. tree_agrees t (with_values env xs vs) r tail fs gs h)
+          (cases_agree cs u env r tail fs gs h a b i)
 
-      rows_agree : (rs : SegRows) (u : Term) (env : Env) (r : Rests) (tail : Bool) (fs gs : Falls) → FallsAgree fs gs → (a b : Tried Values) → TriedAgrees a b → TriedAgrees (rows_do w (here_of name own f) rs u env r tail fs a) (rows_do w (here_of name own g) rs u env r tail gs b)
+      rows_agree : (rs : SegRows) (u : Term) (env : Env) (r : Rests) (tail : Bool) (fs gs : Falls) → FallsAgree fs gs
+          → (a b : Tried Values) → TriedAgrees a b
+          → TriedAgrees (rows_do w (here_of name own f) rs u env r tail fs a)
+          (rows_do w (here_of name own g) rs u env r tail gs b)
       rows_agree no_row u env r tail fs gs h a b i = i
       rows_agree (and_row (seg_row ss t) rs) (T.bits bs) env r tail fs gs h a b i =
           and_cuts_agrees _ _ _ _ (omega arith)
-          (bound_agrees (match_segs (segments_of ss) env bs) _ _ _ _ (λ xs. tree_agrees t (with_bindings env xs) r tail fs gs h) (rows_agree rs (T.bits bs) env r tail fs gs h a b i))
+          (bound_agrees (match_segs (segments_of ss) env bs) _ _ _ _
+          (λ xs. tree_agrees t (with_bindings env xs) r tail fs gs h)
+          (rows_agree rs (T.bits bs) env r tail fs gs h a b i))
       rows_agree (and_row (seg_row ss t) rs) _ env r tail fs gs h a b i = i
 
 -- two bodies that do the same where the functions that they enter agree
 abbrev BodyAgrees : BodyMeaning → BodyMeaning → Type 0
 BodyAgrees old new =
-    (name : Name) (own : Term) (f g : ℕ → Values → M Term) → EntersAgree f g → (vs : Values) (s t : State) → SameState s t →
+    (name : Name) (own : Term) (f g : ℕ → Values → M Term) → EntersAgree f g → (vs : Values) (s t : State)
+    → SameState s t →
     SameResult (old (here_of name own f) vs s) (new (here_of name own g) vs t)
 
 fun_agrees_with_itself : (w : Setting) (k : Fun) → BodyAgrees (fun_does w k) (fun_does w k)
 unfolding fun_does
 fun_agrees_with_itself w k name own f g enters vs =
-    bind_agrees _ _ _ _ (meaning_agrees name own f g enters w k.body (with_values no_values k.params vs) true) (λ vs. give_agrees (only vs))
+    bind_agrees _ _ _ _ (meaning_agrees name own f g enters w k.body (with_values no_values k.params vs) true)
+    (λ vs. give_agrees (only vs))
 
-pub same_bodies : (w : Setting) (old new : Fun) → fun_does w old ≡ fun_does w new → BodyAgrees (fun_does w old) (fun_does w new)
+pub same_bodies : (w : Setting) (old new : Fun) → fun_does w old ≡ fun_does w new
+    → BodyAgrees (fun_does w old) (fun_does w new)
 same_bodies w old new e = subst (λ m. BodyAgrees (fun_does w old) m) e (fun_agrees_with_itself w old)

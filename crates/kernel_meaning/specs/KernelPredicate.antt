@@ -8,7 +8,7 @@ use Rattle.erl_term.specs.TermOrder.{same_term}
 use Rattle.erl_term.specs.Terms.{listed}
 use Rattle.bif_table.specs.Builtins.{arity_of}
 use Rattle.world_model.specs.RemoteCalls.{takes}
-use Rattle.kernel_form.specs.Kernel.{Value, var, lit, MapPair, Part, Simple, value, cons, tuple, map_put, bits, make_fun, bif, local, apply, remote, send, trace, raise, failing, any, bind, known, Seg, seg, Segs, no_seg, and_seg, Shape, is, is_cons, is_tuple, map_has, BinStep, start, integer, take_bits, done, mark, back, Expr, values, simple, let_in, match_in, try, catch, receive, Tree, body, fall, either_in, switch, segments, step, guarded, case, Cases, no_case, and_case, seg_row, SegRows, no_row, and_row, Fun}
+use Rattle.kernel_form.specs.Kernel.{Value, var, lit, MapPair, Part, Simple, value, cons, tuple, map_put, bits, make_fun, bif, local, apply, remote, send, trace, raise, failing, any, bind, known, Seg, seg, Segs, no_seg, and_seg, CaseShape, is, is_cons, is_tuple, map_has, BinStep, start, integer, take_bits, done, mark, back, Expr, values, simple, let_in, match_in, try, catch, receive, Tree, body, fall, either_in, switch, segments, step, guarded, case, Cases, no_case, and_case, seg_row, SegRows, no_row, and_row, Fun}
 use Rattle.kernel_meaning.specs.Environment.{width}
 use Rattle.kernel_meaning.specs.KernelRun.{widths}
 use Rattle.kernel_meaning.specs.Windows.{window_fits}
@@ -91,7 +91,7 @@ simple_scoped xs (raise v r) = sees xs v && sees xs r
 simple_scoped xs (failing v) = sees xs v
 
 -- a shape reads at most the key of a map
-abbrev pub shape_scoped : List ℕ → Shape → Bool
+abbrev pub shape_scoped : List ℕ → CaseShape → Bool
 shape_scoped xs (map_has v) = sees xs v
 shape_scoped xs _ = true
 
@@ -112,24 +112,24 @@ abbrev pub is_binary_seg : Seg → Bool
 is_binary_seg (seg q v h) = h.is_binary
 
 -- what a step leaves beside terms: a context, or a position of a context
-pub data Point : Type 0 where
-  context : ℕ → Point
-  position : ℕ → ℕ → Point
+pub data BitPoint : Type 0 where
+  context : ℕ → BitPoint
+  position : ℕ → ℕ → BitPoint
 
 -- whether a context is there
-abbrev pub has_context : ℕ → List Point → Bool
+abbrev pub has_context : ℕ → List BitPoint → Bool
 has_context c [] = false
 has_context c (context d ∷ cs) = eqb c d || has_context c cs
 has_context c (position p d ∷ cs) = has_context c cs
 
 -- whether a position of a context is there
-abbrev pub has_position : ℕ → ℕ → List Point → Bool
+abbrev pub has_position : ℕ → ℕ → List BitPoint → Bool
 has_position p c [] = false
 has_position p c (context d ∷ cs) = has_position p c cs
 has_position p c (position q d ∷ cs) = eqb p q && eqb c d || has_position p c cs
 
 -- a step on bits reads contexts and positions that are there
-abbrev pub step_scoped : List ℕ → List Point → BinStep → Bool
+abbrev pub step_scoped : List ℕ → List BitPoint → BinStep → Bool
 step_scoped xs cs (start x c) = among x xs
 step_scoped xs cs (integer c s) = has_context c cs && not (is_binary_seg s) && seg_scoped xs s
 step_scoped xs cs (take_bits c s) = has_context c cs && is_binary_seg s && seg_scoped xs s
@@ -144,7 +144,7 @@ step_terms (take_bits c s) = bound_by_seg s
 step_terms _ = []
 
 -- the places that it leaves
-abbrev pub step_points : BinStep → List Point
+abbrev pub step_points : BinStep → List BitPoint
 step_points (start x c) = context c ∷ []
 step_points (mark c p) = position p c ∷ []
 step_points _ = []
@@ -160,7 +160,7 @@ abbrev mutual
   scoped (receive n x t v b) xs = sees xs v && tree_scoped t (x ∷ xs) [] false [] && scoped b xs
 
   -- strict: a fall has an `either_in`
-  pub tree_scoped : Tree → List ℕ → List Point → Bool → List ℕ → Bool
+  pub tree_scoped : Tree → List ℕ → List BitPoint → Bool → List ℕ → Bool
   tree_scoped (body e) xs cs strict ks = scoped e xs
   tree_scoped (fall k) xs cs strict ks = not strict || among k ks
   tree_scoped (either_in k a b) xs cs strict ks = tree_scoped a xs cs strict (k ∷ ks) && tree_scoped b xs cs strict ks
@@ -174,12 +174,12 @@ abbrev mutual
   tree_scoped (guarded g a b) xs cs strict ks =
       scoped g xs && tree_scoped a xs cs strict ks && tree_scoped b xs cs strict ks
 
-  pub cases_scoped : Cases → List ℕ → List Point → Bool → List ℕ → Bool
+  pub cases_scoped : Cases → List ℕ → List BitPoint → Bool → List ℕ → Bool
   cases_scoped no_case xs cs strict ks = true
   cases_scoped (and_case (case h ys t) hs) xs cs strict ks =
       shape_scoped xs h && tree_scoped t (ys ++ xs) cs strict ks && cases_scoped hs xs cs strict ks
 
-  pub rows_scoped : SegRows → List ℕ → List Point → Bool → List ℕ → Bool
+  pub rows_scoped : SegRows → List ℕ → List BitPoint → Bool → List ℕ → Bool
   rows_scoped no_row xs cs strict ks = true
   rows_scoped (and_row (seg_row ss t) rs) xs cs strict ks =
       segs_scoped xs ss && tree_scoped t (bound_by_segs ss ++ xs) cs strict ks && rows_scoped rs xs cs strict ks
@@ -202,7 +202,7 @@ calls_fit ws _ = true
 -- and the last tree is no switch on the same variable.
 
 -- whether no term has both shapes; a shape with a key may have terms in common with others
-abbrev pub apart : Shape → Shape → Bool
+abbrev pub apart : CaseShape → CaseShape → Bool
 apart (map_has v) h = true
 apart h (map_has v) = true
 apart (is t) (is u) = not (same_term t u)
@@ -215,14 +215,14 @@ apart (is_tuple n) (is_tuple m) = not (eqb n m)
 apart _ _ = true
 
 -- how many parts a term of the shape has
-abbrev pub parts_in : Shape → ℕ
+abbrev pub parts_in : CaseShape → ℕ
 parts_in (is t) = 0
 parts_in is_cons = 2
 parts_in (is_tuple n) = n
 parts_in (map_has v) = 1
 
 -- whether a shape is apart from those of cases
-abbrev pub apart_from : Shape → Cases → Bool
+abbrev pub apart_from : CaseShape → Cases → Bool
 apart_from h no_case = true
 apart_from h (and_case (case k xs t) cs) = apart h k && apart_from h cs
 

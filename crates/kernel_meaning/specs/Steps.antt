@@ -16,7 +16,7 @@ use Rattle.world_model.specs.RemoteCalls.{call_terms, apply_term, raise_again}
 use Rattle.world_model.specs.Entries.{enter_site}
 use Rattle.step_machine.specs.Bodies.{Here, callees}
 use Rattle.core_meaning.specs.Evaluation.{build_each, bits_or_badarg}
-use Rattle.kernel_form.specs.Kernel.{Simple, value, cons, tuple, map_put, bits, make_fun, bif, local, apply, remote, send, trace, raise, failing, Shape, is, is_cons, is_tuple, map_has, BinStep, start, integer, take_bits, done, mark, back, Seg, seg}
+use Rattle.kernel_form.specs.Kernel.{Simple, value, cons, tuple, map_put, bits, make_fun, bif, local, apply, remote, send, trace, raise, failing, CaseShape, is, is_cons, is_tuple, map_has, BinStep, start, integer, take_bits, done, mark, back, Seg, seg}
 use Rattle.kernel_meaning.specs.Environment.{Env, Rests, with_rest, read, read_all, read_pairs, read_parts, Setting, width}
 use Rattle.kernel_meaning.specs.PatternMatch.{segment_binds, with_segment, made}
 
@@ -43,7 +43,7 @@ simply w here (raise v r) env tail = raise_again (read env v) (read env r)
 simply w here (failing v) env tail = fail T.error (read env v)
 
 -- the parts of a term that has the shape
-unfoldable pub shape_parts : Shape → Env → Term → Option Values
+unfoldable pub shape_parts : CaseShape → Env → Term → Option Values
 unfolding same_term
 shape_parts (is t) env u = if same_term t u then Some [] else None
 shape_parts is_cons env (T.cons x y) = Some (x ∷ y ∷ [])

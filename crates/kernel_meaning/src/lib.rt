@@ -1,9 +1,9 @@
 //! What functions in kernel form mean, which of them are well formed, and how the contract of passes sees them.
 //!
 //! Kernel form is Core Erlang with its names gone and its patterns taken apart: variables are numbers, each call names
-//! its site, and clauses become trees. `case X of {a,Y} when 'true' -> Y` is a switch on the variable of X with one case
-//! for a tuple of two, in it a switch with one case for `a`, and a body that gives the variable of the second part. A
-//! tree tries its rows from left to right; `fall k` goes on behind `either_in k`.
+//! its site, and clauses become trees. `case X of {a,Y} when 'true' -> Y` is a switch on the variable of X with one
+//! case for a tuple of two, in it a switch with one case for `a`, and a body that gives the variable of the second
+//! part. A tree tries its rows from left to right; `fall k` goes on behind `either_in k`.
 //!
 //! - `KernelRun` is one function on expressions and trees, by the same words as the meaning of Core Erlang, so that
 //!   closure conversion can be shown rule by rule.

@@ -1,7 +1,7 @@
-//! Measures calls over a file, for `bin/bench`: `measure tokens FILE` tells how many tokens a text has, `measure term FILE`
-//! how many bytes the printed text of a term has, `measure value FILE` how many cells were gone along in the list that a
-//! text is. With `timed` in front it tells what each step took, in microseconds, and what the system says of the process,
-//! which has the most memory that it took (`VmHWM`).
+//! Measures calls over a file, for `bin/bench`: `measure tokens FILE` tells how many tokens a text has, `measure term
+//! FILE` how many bytes the printed text of a term has, `measure value FILE` how many cells were gone along in the list
+//! that a text is. With `timed` in front it tells what each step took, in microseconds, and what the system says of the
+//! process, which has the most memory that it took (`VmHWM`).
 #![tactic(auto)]
 
 mod clock;
@@ -10,8 +10,7 @@ mod tokens;
 mod values;
 
 use clock::Clock;
-use std::env;
-use std::io;
+use std::{env, io};
 
 const USAGE: &str = "usage: measure [timed] tokens FILE, measure [timed] term FILE, measure [timed] value FILE";
 

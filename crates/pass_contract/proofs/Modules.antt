@@ -19,7 +19,8 @@ same_twice s t u p q = record {
   next = q.next ∙ p.next;
   left = q.left ∙ p.left;
   done = q.done ∙ p.done;
-  sub_binaries = let a : sub_binaries u.notes ≤ sub_binaries t.notes = q.sub_binaries in let b : sub_binaries t.notes ≤ sub_binaries s.notes = p.sub_binaries in omega (arith, a, b);
+  sub_binaries = let a : sub_binaries u.notes ≤ sub_binaries t.notes =
+      q.sub_binaries in let b : sub_binaries t.notes ≤ sub_binaries s.notes = p.sub_binaries in omega (arith, a, b);
 }
 
 result_twice : {A : Type 0} (r q p : State × Outcome A) → SameResult r q → SameResult q p → SameResult r p
@@ -34,21 +35,27 @@ pub record Entered (enter : ℕ → Values → M Term) : Type 0 where
   pub does : ℕ → Values → M Term
   pub agrees : EntersAgree enter does
 
-module _ (old new : ℕ → Run) (single : (n : ℕ) → HasOneResult (new n)) (agrees : (n : ℕ) → Agrees (old n) (new n)) (name : Name) (own : Term) (enter : ℕ → ℕ → Values → M Term) (means : IsMeaning name own old enter) where
-  given : (d : ℕ) (x : Entered (enter d)) (n : ℕ) (vs : Values) (s t : State) → SameState s t → GivesSame (new n) (here_of name own x.does) vs t (enter (suc d) n vs s)
-  given d x n vs s t h = agrees n name own (enter d) x.does x.agrees vs s t h (enter (suc d) n vs s) (means.more d n vs s)
+module _ (old new : ℕ → Run) (single : (n : ℕ) → HasOneResult (new n)) (agrees : (n : ℕ) → Agrees (old n) (new n))
+    (name : Name) (own : Term) (enter : ℕ → ℕ → Values → M Term) (means : IsMeaning name own old enter) where
+  given : (d : ℕ) (x : Entered (enter d)) (n : ℕ) (vs : Values) (s t : State) → SameState s t
+      → GivesSame (new n) (here_of name own x.does) vs t (enter (suc d) n vs s)
+  given d x n vs s t h = agrees n name own (enter d) x.does x.agrees vs s t h (enter (suc d) n vs s)
+      (means.more d n vs s)
 
   next : (d : ℕ) → Entered (enter d) → Entered (enter (suc d))
   next d x = record {
     does = λ n vs t. (given d x n vs t t (itself t)).result;
     agrees = λ n vs s t h.
         let p : GivesSame (new n) (here_of name own x.does) vs t (enter (suc d) n vs s) = given d x n vs s t h in
-        let q : GivesSame (new n) (here_of name own x.does) vs t (enter (suc d) n vs t) = given d x n vs t t (itself t) in
-        subst (SameResult (enter (suc d) n vs s)) (single n (here_of name own x.does) vs t p.result q.result p.gives q.gives) p.same;
+        let q : GivesSame (new n) (here_of name own x.does) vs t (enter (suc d) n vs t) =
+        given d x n vs t t (itself t) in
+        subst (SameResult (enter (suc d) n vs s))
+        (single n (here_of name own x.does) vs t p.result q.result p.gives q.gives) p.same;
   }
 
   nothing_entered : (n : ℕ) (vs : Values) (s t : State) → SameState s t → SameResult (enter zero n vs s) (t, spent)
-  nothing_entered n vs s t h = subst (λ r. SameResult r (t, spent)) (sym (means.none n vs s)) (record { state = h; end = refl })
+  nothing_entered n vs s t h =
+      subst (λ r. SameResult r (t, spent)) (sym (means.none n vs s)) (record { state = h; end = refl })
 
   all_entered : (d : ℕ) → Entered (enter d)
   all_entered zero = record { does = λ n vs s. (s, spent); agrees = nothing_entered }
@@ -71,7 +78,11 @@ pub compose : ModulesCompose
 compose a b c p q name own enter means =
     let x : MeansSame name own b enter = p name own enter means in
     let y : MeansSame name own c x.meaning = q name own x.meaning x.means in
-    record { meaning = y.meaning; means = y.means; agrees = λ d. enters_twice (enter d) (x.meaning d) (y.meaning d) (x.agrees d) (y.agrees d) }
+    record {
+      meaning = y.meaning;
+      means = y.means;
+      agrees = λ d. enters_twice (enter d) (x.meaning d) (y.meaning d) (x.agrees d) (y.agrees d);
+    }
 
 pub at_once_agrees : AtOnceAgrees
 at_once_agrees old new h name own f g e vs s t p r q = record {

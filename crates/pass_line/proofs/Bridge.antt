@@ -7,7 +7,7 @@ use Rattle.erl_term.specs.Term.{Term}
 use Rattle.core_form.specs.declared.tree.Binder.{Binder}
 use Rattle.core_form.specs.Core.{Expr, literal, var, fun, Defs, no_def, and_def, def}
 use Rattle.beam_table.specs.Code.{Insn, AsmFun}
-use Rattle.behaviour.specs.PlainModules.{PlainBody, number, atom, parameter, PlainFun, later_place, place_of, as_parameter, plain_body, with_key, plain_fun, and_also, plain_funs, plain_code, plain_asm}
+use Rattle.behaviour.specs.PlainModules.{PlainBody, number, atom, parameter, PlainFun, later_place, parameter_place, as_parameter, plain_body, with_key, plain_fun, both_plain, plain_funs, plain_code, plain_asm}
 use Rattle.pass_line.specs.PlainModule.{is_plain_atom, is_bound, are_distinct, is_plain_literal, is_plain_body, is_plain_fun, are_plain, keys_of}
 use Rattle.pass_line.specs.PlainCode.{index_of, gives_parameter, gives_literal, gives_body, code, functions}
 use Rattle.pass_line.proofs.Names.{same_name-Decides, both}
@@ -46,36 +46,42 @@ not_true : (a : Bool) → not a ≡ true → a ≡ false
 not_true true h = absurd (true≢false (sym h))
 not_true false h = refl
 
-unbound : (x : Name) (xs : List Binder) → is_bound x xs ≡ false → place_of x xs ≡ None
+unbound : (x : Name) (xs : List Binder) → is_bound x xs ≡ false → parameter_place x xs ≡ None
 unbound x [] h = refl
 unbound x (y ∷ ys) h =
     let p : (same_name x y.name ≡ false) × (is_bound x ys ≡ false) = either (same_name x y.name) (is_bound x ys) h in
     ap₂ later_place p.0 (unbound x ys p.1)
 
-bound : (x : Name) (xs : List Binder) → are_distinct xs ≡ true → is_bound x xs ≡ true → place_of x xs ≡ Some (index_of x xs)
+bound : (x : Name) (xs : List Binder) → are_distinct xs ≡ true → is_bound x xs ≡ true
+    → parameter_place x xs ≡ Some (index_of x xs)
 bound x [] d h = absurd (true≢false (sym h))
 bound x (y ∷ ys) d h = by (same_name x y.name) refl (bound x ys)
   where
     by : (b : Bool) → same_name x y.name ≡ b →
-        (are_distinct ys ≡ true → is_bound x ys ≡ true → place_of x ys ≡ Some (index_of x ys)) →
-        place_of x (y ∷ ys) ≡ Some (index_of x (y ∷ ys))
+        (are_distinct ys ≡ true → is_bound x ys ≡ true → parameter_place x ys ≡ Some (index_of x ys)) →
+        parameter_place x (y ∷ ys) ≡ Some (index_of x (y ∷ ys))
     by true e rest =
-        let q : (not (is_bound y.name ys) ≡ true) × (are_distinct ys ≡ true) = both (not (is_bound y.name ys)) (are_distinct ys) d in
-        let u : is_bound x ys ≡ false = ap (λ n. is_bound n ys) ((same_name-Decides x y.name).0 e) ∙ not_true (is_bound y.name ys) q.0 in
+        let q : (not (is_bound y.name ys) ≡ true) × (are_distinct ys ≡ true) =
+        both (not (is_bound y.name ys)) (are_distinct ys) d in
+        let u : is_bound x ys ≡ false =
+        ap (λ n. is_bound n ys) ((same_name-Decides x y.name).0 e) ∙ not_true (is_bound y.name ys) q.0 in
         ap₂ later_place e (unbound x ys u) ∙ ap Some (sym (if_true (same_name x y.name) 0 (suc (index_of x ys)) e))
     by false e rest =
-        let q : (not (is_bound y.name ys) ≡ true) × (are_distinct ys ≡ true) = both (not (is_bound y.name ys)) (are_distinct ys) d in
+        let q : (not (is_bound y.name ys) ≡ true) × (are_distinct ys ≡ true) =
+        both (not (is_bound y.name ys)) (are_distinct ys) d in
         let r : is_bound x ys ≡ true = ap (λ b. b || is_bound x ys) (sym e) ∙ h in
         ap₂ later_place e (rest q.1 r) ∙ ap Some (sym (if_false (same_name x y.name) 0 (suc (index_of x ys)) e))
 
 -- Bodies and definitions.
 
-plain_literal : (p : _) (xs : List Binder) (t : Term) → is_plain_literal t ≡ true → plain_body xs (literal p t) ≡ Some (literal_of t)
+plain_literal : (p : _) (xs : List Binder) (t : Term) → is_plain_literal t ≡ true
+    → plain_body xs (literal p t) ≡ Some (literal_of t)
 plain_literal p xs (T.int z) h = refl
 plain_literal p xs (T.atom a) h = refl
 plain_literal p xs _ h = absurd (true≢false (sym h))
 
-plain_bodied : (xs : List Binder) (e : Expr) → are_distinct xs ≡ true → is_plain_body xs e ≡ true → plain_body xs e ≡ Some (body_of xs e)
+plain_bodied : (xs : List Binder) (e : Expr) → are_distinct xs ≡ true → is_plain_body xs e ≡ true
+    → plain_body xs e ≡ Some (body_of xs e)
 plain_bodied xs (var p x) d h = ap as_parameter (bound x xs d h)
 plain_bodied xs (literal p t) d h = plain_literal p xs t h
 plain_bodied xs _ d h = absurd (true≢false (sym h))
@@ -90,26 +96,30 @@ pub record Tested (f : FunKey) (xs : List Binder) (e : Expr) : Type 0 where
 
 pub tested : (p : _) (f : FunKey) (xs : List Binder) (e : Expr) → is_plain_fun f (fun p xs e) ≡ true → Tested f xs e
 tested p f xs e h =
-    let a : ((leb f.arity 255 && eqb f.arity (length xs) && are_distinct xs && is_plain_atom f.name) ≡ true) × (is_plain_body xs e ≡ true)
-    = both (leb f.arity 255 && eqb f.arity (length xs) && are_distinct xs && is_plain_atom f.name) (is_plain_body xs e) h in
+    let a : ((leb f.arity 255 && eqb f.arity (length xs) && are_distinct xs && is_plain_atom f.name) ≡ true)
+    × (is_plain_body xs e ≡ true)
+    = both (leb f.arity 255 && eqb f.arity (length xs) && are_distinct xs && is_plain_atom f.name)
+    (is_plain_body xs e) h in
     let b : ((leb f.arity 255 && eqb f.arity (length xs) && are_distinct xs) ≡ true) × (is_plain_atom f.name ≡ true)
     = both (leb f.arity 255 && eqb f.arity (length xs) && are_distinct xs) (is_plain_atom f.name) a.0 in
     let c : ((leb f.arity 255 && eqb f.arity (length xs)) ≡ true) × (are_distinct xs ≡ true)
     = both (leb f.arity 255 && eqb f.arity (length xs)) (are_distinct xs) b.0 in
-    let d : (leb f.arity 255 ≡ true) × (eqb f.arity (length xs) ≡ true) = both (leb f.arity 255) (eqb f.arity (length xs)) c.0 in
+    let d : (leb f.arity 255 ≡ true) × (eqb f.arity (length xs) ≡ true) =
+    both (leb f.arity 255) (eqb f.arity (length xs)) c.0 in
     record { small = d.0; arity = d.1; distinct = c.1; name = b.1; body = a.1 }
 
 plain_funned : (f : FunKey) (e : Expr) → is_plain_fun f e ≡ true → plain_fun f e ≡ Some (fun_of f e)
 plain_funned f (fun p xs e) h =
     let t : Tested f xs e = tested p f xs e h in
-    if_true (eqb f.arity (length xs)) (with_key f (plain_body xs e)) None t.arity ∙ ap (with_key f) (plain_bodied xs e t.distinct t.body)
+    if_true (eqb f.arity (length xs)) (with_key f (plain_body xs e)) None t.arity
+    ∙ ap (with_key f) (plain_bodied xs e t.distinct t.body)
 plain_funned f _ h = absurd (true≢false (sym h))
 
 pub plain_funs-are_plain : (ds : Defs) → are_plain ds ≡ true → plain_funs ds ≡ Some (funs_of ds)
 plain_funs-are_plain no_def h = refl
 plain_funs-are_plain (and_def (def p f e) ds) h =
     let a : (is_plain_fun f e ≡ true) × (are_plain ds ≡ true) = both (is_plain_fun f e) (are_plain ds) h in
-    ap₂ and_also (plain_funned f e a.0) (plain_funs-are_plain ds a.1)
+    ap₂ both_plain (plain_funned f e a.0) (plain_funs-are_plain ds a.1)
 
 pub keys-funs_of : (ds : Defs) → map (λ h. h.key) (funs_of ds) ≡ keys_of ds
 keys-funs_of no_def = refl

@@ -3,7 +3,6 @@ pub mod Carried
 pub mod Correct
 pub mod EachOnce
 pub mod Fronts
-pub mod KeyLists
 pub mod Literals
 pub mod Names
 pub mod Plainness

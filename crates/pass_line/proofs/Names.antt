@@ -19,4 +19,5 @@ both true b e = (search rules, e)
 both false b e = absurd cc
 
 pub same_name-told : (r : Bool) (x y : List ℕ) → IsTrue r ↔ (x ≡ y) → r ≡ same_name x y
-same_name-told r x y h = same_from_decides r (same_name x y) (λ t. h.0 (search (rules, t)), λ e. search (rules, h.1 e)) (same_name-Decides x y)
+same_name-told r x y h = same_from_decides r (same_name x y) (λ t. h.0 (search (rules, t)), λ e. search (rules, h.1 e))
+    (same_name-Decides x y)

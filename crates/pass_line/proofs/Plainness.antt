@@ -1,5 +1,5 @@
 -- What makes a module plain.
-use Rattle.std.proofs.Common.{◌≡◌, ◌<◌, ◌≤◌, suc, List, [], ◌∷◌, Bool, true, false, ℤ, pos, negsuc, FitsSigned, true≢false, IsTrue, ◌↔◌, ◌∙◌, map, length, nat_le, Result, Ok, Err, IfOk, refl, sym, ap, subst, arith, rules}
+use Rattle.std.proofs.Common.{◌≡◌, ◌<◌, ◌≤◌, suc, List, [], ◌∷◌, Bool, true, false, ℤ, pos, negsuc, FitsSigned, true≢false, IsTrue, ◌↔◌, ◌∙◌, map, length, nat_le, refl, sym, ap, subst, arith, rules}
 use Rattle.erl_base.specs.declared.ids.FunKey.{FunKey}
 use Rattle.core_form.specs.declared.tree.Def.{Def}
 use Rattle.core_form.specs.declared.module.Module.{Module}
@@ -7,7 +7,7 @@ use Rattle.erl_term.specs.View.{attribute_view}
 use Rattle.core_form.specs.View.{defs, def_view, module_view}
 use Rattle.erl_term.specs.declared.term.Attribute.{Attribute}
 use Rattle.erl_term.specs.Ranges.{is_within_128}
-use Rattle.beam_table.specs.ValidModule.{keys_distinct}
+use Rattle.erl_base.specs.Names.{keys_distinct}
 use mir.Syntax.{w128}
 use Rattle.pass_line.proofs.EachOnce.{are_new-keys_distinct}
 use Rattle.pass_line.specs.PlainModule.{keys_of, are_plain, is_plain_atom, are_new, are_known, IsPlain}
@@ -16,15 +16,13 @@ length-keys_of : (ds : List Def) → length (keys_of (defs (map def_view ds))) �
 length-keys_of [] = refl
 length-keys_of (d ∷ ds) = ap suc (length-keys_of ds)
 
-pub too_many : (ds : List Def) → 20000 < length ds → IsTrue (nat_le (length (keys_of (defs (map def_view ds)))) 20000) → ⊥
-too_many ds h t = let l : nat_le (length ds) 20000 ≡ true = subst (λ n. nat_le n 20000 ≡ true) (length-keys_of ds) t in grind (arith, l)
+pub too_many : (ds : List Def) → 20000 < length ds → IsTrue (nat_le (length (keys_of (defs (map def_view ds)))) 20000)
+    → ⊥
+too_many ds h t = let l : nat_le (length ds) 20000 ≡ true =
+    subst (λ n. nat_le n 20000 ≡ true) (length-keys_of ds) t in grind (arith, l)
 
 pub few : (ds : List Def) → length ds ≤ 20000 → IsTrue (nat_le (length (keys_of (defs (map def_view ds)))) 20000)
 few ds h = subst (λ n. nat_le n 20000 ≡ true) (sym (length-keys_of ds)) (search (rules, h))
-
-pub ok_then : {X E : Type 0} {P Q : X → Type 0} (r : Result X E) → IfOk r P → ((x : X) → P x → Q x) → IfOk r Q
-ok_then (Ok x) h f = f x h
-ok_then (Err e) h f = tt
 
 -- what is tested in turn
 pub told : (m : Module) (known : List FunKey) (b : Bool) →
@@ -43,11 +41,13 @@ told m known b size name functions new all none e = (
   λ p. e ∙ subst (λ ks. are_known ks m.exports ≡ true) (sym all) p.known_exports,
 )
 
-pub doubled : (ds : List Def) → are_new [] (keys_of (defs (map def_view ds))) ≡ false → IsTrue (keys_distinct (keys_of (defs (map def_view ds)))) → ⊥
+pub doubled : (ds : List Def) → are_new [] (keys_of (defs (map def_view ds))) ≡ false
+    → IsTrue (keys_distinct (keys_of (defs (map def_view ds)))) → ⊥
 doubled ds e t = true≢false (sym t ∙ sym (are_new-keys_distinct (keys_of (defs (map def_view ds)))) ∙ e)
 
 pub small : (m : Module) → IsPlain (module_view m) → length m.defs ≤ 20000
-small m p = let l : nat_le (length m.defs) 20000 ≡ true = subst (λ n. nat_le n 20000 ≡ true) (length-keys_of m.defs) p.few_functions in grind (arith, l)
+small m p = let l : nat_le (length m.defs) 20000 ≡ true =
+    subst (λ n. nat_le n 20000 ≡ true) (length-keys_of m.defs) p.few_functions in grind (arith, l)
 
 -- an attribute is there
 pub attributed : (m : Module) → (m.attributes ≡ [] → ⊥) → IsPlain (module_view m) → ⊥

@@ -1,13 +1,13 @@
 -- A plain module's code has a text, and is a valid module.
 use Rattle.std.proofs.Common.{◌≡◌, ◌<◌, ◌^◌, ℕ, zero, suc, List, [], ◌∷◌, ◌&&◌, ◌||◌, Bool, true, false, leb, length, if◌then◌else◌, refl, sym, ap, ap₂, subst, ◌∙◌, true≢false, arith}
-use Rattle.erl_base.specs.Names.{same_key}
+use Rattle.erl_base.specs.Names.{same_key, is_key, keys_distinct}
 use Rattle.erl_base.specs.declared.ids.FunKey.{FunKey}
 use Rattle.erl_term.specs.Term as T
 use Rattle.erl_term.specs.Term.{Term}
 use Rattle.term_text.specs.Atoms.{is_plain_name}
 use Rattle.core_form.specs.declared.tree.Binder.{Binder}
 use Rattle.core_form.specs.Core.{Module, Expr, literal, var, fun, Defs, no_def, and_def, def}
-use Rattle.beam_table.specs.ValidModule.{every, is_key, keys_distinct, attribute_ok, Valid}
+use Rattle.beam_table.specs.ValidModule.{every, attribute_ok, Valid}
 use Rattle.asm_text.specs.AssemblyText.{insn_has_text, fun_has_text, HasText}
 use Rattle.behaviour.specs.Called.{export_keys, without, each_once}
 use Rattle.behaviour.specs.PlainModules.{body_fits, fun_fits, IsPlainModule, FitsText, PlainAssemblyIsValid, plain_assembly}
@@ -92,14 +92,17 @@ known_passes : (p : FunKey → Bool) (f : FunKey) (ks : List FunKey) → is_key 
 known_passes p f [] k h = absurd (true≢false (sym k))
 known_passes p f (g ∷ gs) k h = by (same_key f g) refl (both (p g) (every p gs) h) (known_passes p f gs)
   where
-    by : (b : Bool) → same_key f g ≡ b → (p g ≡ true) × (every p gs ≡ true) → (is_key f gs ≡ true → every p gs ≡ true → p f ≡ true) → p f ≡ true
+    by : (b : Bool) → same_key f g ≡ b → (p g ≡ true) × (every p gs ≡ true)
+        → (is_key f gs ≡ true → every p gs ≡ true → p f ≡ true) → p f ≡ true
     by true e q r = ap p ((same_key-Decides f g).0 e) ∙ q.0
     by false e q r = r (ap (λ b. b || is_key f gs) (sym e) ∙ k) q.1
 
-all_known_pass : (p : FunKey → Bool) (fs ks : List FunKey) → every (λ f. is_key f ks) fs ≡ true → every p ks ≡ true → every p fs ≡ true
+all_known_pass : (p : FunKey → Bool) (fs ks : List FunKey) → every (λ f. is_key f ks) fs ≡ true → every p ks ≡ true
+    → every p fs ≡ true
 all_known_pass p [] ks k h = refl
 all_known_pass p (f ∷ fs) ks k h =
-    let q : (is_key f ks ≡ true) × (every (λ f. is_key f ks) fs ≡ true) = both (is_key f ks) (every (λ f. is_key f ks) fs) k in
+    let q : (is_key f ks ≡ true) × (every (λ f. is_key f ks) fs ≡ true) =
+    both (is_key f ks) (every (λ f. is_key f ks) fs) k in
     ap₂ ◌&&◌ (known_passes p f ks q.0 h) (all_known_pass p fs ks q.1 h)
 
 plain_name : (name : List ℕ) → is_plain_atom name ≡ true → is_plain_name name ≡ true
@@ -143,7 +146,8 @@ pub has_text : (m : Module) → IsPlain m → HasText (assembly m)
 has_text m h = record {
   name = plain_name m.name h.name;
   exports = every-each_once (λ f. is_plain_name f.name) (export_keys m)
-      (all_known_pass (λ f. is_plain_name f.name) (export_keys m) (keys_of m.defs) h.known_exports (keys_plain m.defs h.functions));
+      (all_known_pass (λ f. is_plain_name f.name) (export_keys m) (keys_of m.defs) h.known_exports
+      (keys_plain m.defs h.functions));
   attributes = h.no_attributes;
   functions = functions_text 0 m.defs h.functions;
 }
@@ -152,7 +156,13 @@ has_text m h = record {
 
 module _ (bytes : List ℕ) (m : Module) (a : AsmModule) (t : PlainText bytes m) (e : a ≡ assembly m) where
   pub has_code : HasCode bytes a
-  has_code = record { tree = m; funs = funs_of m.defs; text = t; plain = is_plain_module m t.plain; code = e ∙ assembly-plain_assembly m t.plain }
+  has_code = record {
+    tree = m;
+    funs = funs_of m.defs;
+    text = t;
+    plain = is_plain_module m t.plain;
+    code = e ∙ assembly-plain_assembly m t.plain;
+  }
 
   pub has_text_of : HasText a
   has_text_of = subst HasText (sym e) (has_text m t.plain)

@@ -18,9 +18,11 @@ pub record HasCode (bytes : List ℕ) (a : AsmModule) : Type 0 where
   pub plain : IsPlainModule tree funs
   pub code : a ≡ plain_assembly tree funs
 
+-- the bytes are the text of no plain module
 abbrev pub IsNoPlainText : List ℕ → Type 0
 IsNoPlainText bytes = (m : Module) → PlainText bytes m → ⊥
 
+-- the refusal of what no pass compiles yet
 abbrev pub not_built : Refusal
 not_built = record { kind = Profile NotBuilt; place = record { line = 1; column = 1 } }
 

@@ -1,6 +1,5 @@
 pub mod CompileCorrect
 pub mod Compiled
-pub mod Keys
 pub mod PlainCode
 pub mod PlainModule
 pub mod PlainText

@@ -12,6 +12,7 @@ abbrev pub index_of : Name → List Binder → ℕ
 index_of x [] = 0
 index_of x (y ∷ ys) = if same_name x y.name then 0 else suc (index_of x ys)
 
+-- gives a source back
 abbrev pub gives : Source → List Insn
 gives s = move s (x_reg 0) ∷ return ∷ []
 
@@ -20,6 +21,7 @@ abbrev pub gives_parameter : ℕ → List Insn
 gives_parameter zero = return ∷ []
 gives_parameter (suc k) = gives (Source.reg (x_reg (suc k)))
 
+-- gives a number or an atom back
 abbrev pub gives_literal : Term → List Insn
 gives_literal (int z) = gives (Source.integer z)
 gives_literal (atom a) = gives (Source.atom a)
@@ -31,6 +33,7 @@ gives_body xs (var p x) = gives_parameter (index_of x xs)
 gives_body xs (literal p t) = gives_literal t
 gives_body xs _ = []
 
+-- the instructions of a function's body
 abbrev pub code : Expr → List Insn
 code (fun p xs e) = gives_body xs e
 code _ = []
@@ -39,10 +42,12 @@ code _ = []
 abbrev pub function : ℕ → Def → AsmFun
 function k (def p f e) = record { key = f; info = 2 * k + 1; entry = 2 * k + 2; code = code e }
 
+-- the functions of definitions, the first of which is the k-th of the module
 abbrev pub functions : ℕ → Defs → List AsmFun
 functions k no_def = []
 functions k (and_def d ds) = function k d ∷ functions (suc k) ds
 
+-- the assembly of a plain module
 abbrev pub assembly : Module → AsmModule
 assembly m = record {
   name = m.name;

@@ -4,16 +4,16 @@ ghost use Rattle.erl_term.specs.View as Terms;
 ghost use Rattle.core_form.specs.View.{view, def_view, defs};
 ghost use Rattle.core_form.specs.View as Tree;
 ghost use Rattle.beam_table.specs.View.{insn_view, fun_view, module_view, source_view};
-ghost use Rattle.beam_table.specs.ValidModule.{is_key};
+ghost use Rattle.erl_base.specs.Names.{is_key};
 ghost use Rattle.behaviour.specs.Called.{each_once};
 ghost use Rattle.pass_line.specs.PlainCode.{index_of, gives, gives_parameter, gives_literal, gives_body, code, function, functions, assembly};
 
-use crate::keys::KeySet;
 use crate::plain::is_same;
 use beam_table::{AsmFun, AsmFuns, AsmModule, FunKeys, Insn, Insns, Reg, Source};
 use core_form::{Binders, Def, Expr, ExprForm, FunName, Module};
 use erl_base::{Duplicate, FunKey, LabelId, List, Name, NoMemory};
 use erl_term::Term;
+use key_set::KeySet;
 use std::alloc::Global;
 
 // The number of the parameter, or that of all parameters where it is none.

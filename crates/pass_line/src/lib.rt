@@ -1,8 +1,14 @@
 //! The compiler on bytes, today for plain modules: functions that give an integer, an atom or one of their parameters.
 //! It does not see files or notes.
 //!
-//! Memory may be refused at any time: a body that always refuses it meets the contract, and the test shows that the call
-//! succeeds.
+//! Of `module 'm' ['f'/1] attributes [] 'f'/1 = fun (X) -> X end` it makes a module with one function, whose code is
+//! `return`; `'f'/1 = fun (X) -> {X}` is refused at 1:1 as not built.
+//!
+//! Sound, since the reader gives the tree of exactly those texts, and the assembly of that tree behaves as it:
+//! `IsCorrect` says both of what `compile` gives. Every text of a plain module is compiled, and what is refused has
+//! none.
+//!
+//! The passes of the other modules, and the causes of faults in texts, are to come.
 #![tactic(auto)]
 
 ghost use Rattle.std.specs.Prelude.{IfOk, IfErr};
@@ -13,9 +19,9 @@ ghost use Rattle.pass_line.specs.CompileCorrect.{IsCorrect};
 ghost use Rattle.pass_line.specs.Compiled.{HasCode, IsNotBuilt};
 
 mod code;
-mod keys;
 mod plain;
 mod reader;
+mod spelling;
 mod text;
 
 use beam_table::AsmModule;
@@ -44,6 +50,3 @@ pub fn compile(alloc: Global, bytes: &[u8]) -> Result<AsmModule, Fault>
     plain_modules_behave_the_same();
     Ok(made)
 }
-
-#[cfg(test)]
-mod tests;

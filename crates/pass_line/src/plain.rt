@@ -6,10 +6,11 @@ ghost use Rattle.core_form.specs.View.{view, def_view, defs, module_view};
 ghost use Rattle.erl_term.specs.Ranges.{is_within_128};
 ghost use Rattle.pass_line.specs.PlainModule.{is_plain_atom, is_bound, are_distinct, is_plain_literal, is_plain_body, is_plain_def, are_plain, keys_of, are_new, are_known, IsPlain};
 
-use crate::keys::{KeySet, characters_of};
+use crate::spelling::characters_of;
 use core_form::{Binder, Def, Expr, ExprForm, FunName, Module};
 use erl_base::{Name, NoMemory};
 use erl_term::Term;
+use key_set::KeySet;
 use std::alloc::Global;
 use term_text::is_plain_name;
 
@@ -128,7 +129,8 @@ fn are_plain(alloc: Global, ds: &[Def]) -> Result<bool, NoMemory>
 // The keys of the definitions, where each is a new one.
 fn keys(alloc: Global, ds: &[Def]) -> Result<Option<KeySet>, NoMemory>
     ensures { IfOk result (λ found. MatchOption found (are_new [] (keys_of (defs (map def_view ds.now))) ≡ false)
-        (λ known. (are_new [] (keys_of (defs (map def_view ds.now))) ≡ true) × (known ≡ keys_of (defs (map def_view ds.now))))) }
+        (λ known. (are_new [] (keys_of (defs (map def_view ds.now))) ≡ true)
+        × (known ≡ keys_of (defs (map def_view ds.now))))) }
 {
     let mut known = KeySet::new(alloc);
     for def in ds {
@@ -139,15 +141,15 @@ fn keys(alloc: Global, ds: &[Def]) -> Result<Option<KeySet>, NoMemory>
     Ok(Some(known))
 }
 
-fn are_known(alloc: Global, known: &KeySet, exports: &[FunName]) -> Result<bool, NoMemory>
-    ensures { IfOk result (λ found. found ≡ are_known known.now exports.now) }
+fn are_known(known: &KeySet, exports: &[FunName]) -> bool
+    ensures { result ≡ are_known known.now exports.now }
 {
     for export in exports {
-        if !known.contains(alloc, &export.key)? {
-            return Ok(false);
+        if !known.contains(&export.key) {
+            return false;
         }
     }
-    Ok(true)
+    true
 }
 
 /// Whether the module is plain.
@@ -168,6 +170,6 @@ pub fn is_plain(alloc: Global, tree: &Module) -> Result<bool, NoMemory>
     }
     match keys(alloc, tree.defs.as_slice())? {
         None => Ok(false),
-        Some(known) => are_known(alloc, &known, tree.exports.as_slice()),
+        Some(known) => Ok(are_known(&known, tree.exports.as_slice())),
     }
 }

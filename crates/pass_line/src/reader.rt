@@ -190,7 +190,8 @@ fn params_after<'a>(
 ) -> Result<Option<(Binders, &'a [Token])>, NoMemory>
     ensures value { IfOk result (λ found. MatchOption found
         ((ds : List Plain.Def) (f : FunName) (p : Place) → params_after ds f p xs tokens.now ≡ None)
-        (λ r. (ds : List Plain.Def) (f : FunName) (p : Place) → params_after ds f p xs tokens.now ≡ body ds f p r.0 r.1.now)) }
+        (λ r. (ds : List Plain.Def) (f : FunName) (p : Place)
+        → params_after ds f p xs tokens.now ≡ body ds f p r.0 r.1.now)) }
     ensures shorter { IfOk result (λ found. MatchOption found (Unit {0}) (λ r. length r.1.now < length tokens.now)) }
 {
     let mut rest = tokens;

@@ -39,7 +39,8 @@ fn tokens_of(alloc: Global, bytes: &[u8]) -> Result<Option<Tokens>, NoMemory>
 
 /// The module whose text the bytes are, if they are the text of a plain one.
 pub fn plain_module(alloc: Global, bytes: &[u8]) -> Result<Option<Module>, NoMemory>
-    ensures { IfOk result (λ found. MatchOption found (IsNoPlainText bytes.now) (λ m. PlainText bytes.now (module_view m))) }
+    ensures { IfOk result (λ found. MatchOption found (IsNoPlainText bytes.now)
+        (λ m. PlainText bytes.now (module_view m))) }
 {
     if has_percent(bytes) {
         return Ok(None);

@@ -1,7 +1,7 @@
 //! `run` over real files: each answer, its line, and what OUT then holds.
 //!
-//! What the system's files hold no contract tells, so a stored run shows it: a module of more than two pieces, an OUT that
-//! was longer, one file for IN and OUT, and an IN that is missing.
+//! What the system's files hold no contract tells, so a stored run shows it: a module of more than two pieces, an OUT
+//! that was longer, one file for IN and OUT, and an IN that is missing.
 #![tactic(auto)]
 
 use erlc_cli::run;

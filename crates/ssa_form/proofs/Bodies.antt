@@ -54,7 +54,8 @@ abbrev pub placed : Body → Spots → Values → List Reply → Ended
 placed b ps vs rs = placed_run around0 here0 (record { body = b; spots = ps }) 20 (all_terms vs) [] (start_with rs)
 
 abbrev pub framed : Body → Spots → List (ℕ × ℕ) → Values → List Reply → Ended
-framed b ps sizes vs rs = framed_run around0 here0 (record { body = b; spots = ps; sizes = sizes }) 20 (all_terms vs) [] (start_with rs)
+framed b ps sizes vs rs =
+    framed_run around0 here0 (record { body = b; spots = ps; sizes = sizes }) 20 (all_terms vs) [] (start_with rs)
 
 abbrev pub outcome : Ended → Ended
 outcome (done s r) = done (start_with []) r
@@ -105,7 +106,8 @@ abbrev pub tried : Body
 tried = body_of (0 ∷ []) (
     plain_block (set (Some 1) try_start [] ∷ []) (succeeded 1 1 2)
     ∷ plain_block (set (Some 2) (bif B.Hd) (var 0 ∷ []) ∷ set None try_end (var 1 ∷ []) ∷ []) (ret (var 2))
-    ∷ plain_block (set (Some 3) landing (var 1 ∷ []) ∷ set (Some 4) landing (var 1 ∷ []) ∷ set (Some 5) landing (var 1 ∷ [])
+    ∷ plain_block (set (Some 3) landing (var 1 ∷ []) ∷ set (Some 4) landing (var 1 ∷ [])
+    ∷ set (Some 5) landing (var 1 ∷ [])
     ∷ set (Some 6) tuple (var 3 ∷ var 4 ∷ var 5 ∷ []) ∷ []) (ret (var 6))
     ∷ [])
 
@@ -113,7 +115,8 @@ tried = body_of (0 ∷ []) (
 abbrev pub caught : Body
 caught = body_of (0 ∷ []) (
     plain_block (set (Some 1) try_start [] ∷ []) (succeeded 1 1 2)
-    ∷ plain_block (set (Some 2) call_remote (A (codes "erlang") ∷ A (codes "throw") ∷ var 0 ∷ []) ∷ set None try_end (var 1 ∷ []) ∷ []) (ret (var 2))
+    ∷ plain_block (set (Some 2) call_remote (A (codes "erlang") ∷ A (codes "throw") ∷ var 0 ∷ [])
+    ∷ set None try_end (var 1 ∷ []) ∷ []) (ret (var 2))
     ∷ plain_block (set (Some 3) catch_end (var 1 ∷ []) ∷ []) (ret (var 3))
     ∷ [])
 

@@ -49,8 +49,10 @@ jump_or : (b : Bool) (e : ℕ) → (if b then jump else plain) ≡ tests e → �
 jump_or true e h = cc
 jump_or false e h = cc
 
-pub tested_by : (d : Option ℕ) (xs : List Set) (as' : List FrameAction) (l : Last) (e : ℕ) → mode_of d xs as' l ≡ tests e → Tested xs l e
-tested_by d [] [] (succeeded v t k) e h = record { nothing_after = refl; var = v; holds = t; last = ap (λ x. succeeded v t x) (tests_is k e h) }
+pub tested_by : (d : Option ℕ) (xs : List Set) (as' : List FrameAction) (l : Last) (e : ℕ)
+    → mode_of d xs as' l ≡ tests e → Tested xs l e
+tested_by d [] [] (succeeded v t k) e h =
+    record { nothing_after = refl; var = v; holds = t; last = ap (λ x. succeeded v t x) (tests_is k e h) }
 tested_by d [] [] (ret a) e h = absurd (tail_or (is_dst d a) e h)
 tested_by d [] [] (br a t k) e h = absurd (jump_or (eqb t k) e h)
 tested_by d [] [] (switch a k cs) e h = absurd cc
@@ -65,7 +67,8 @@ jump_untested : (b : Bool) → IsFalse (is_tests (if b then jump else plain))
 jump_untested true = refl
 jump_untested false = refl
 
-pub untested : (d : Option ℕ) (as' : List FrameAction) (l : Last) → IsTrue (tests_nothing (Some l)) → IsFalse (is_tests (mode_of d [] as' l))
+pub untested : (d : Option ℕ) (as' : List FrameAction) (l : Last) → IsTrue (tests_nothing (Some l))
+    → IsFalse (is_tests (mode_of d [] as' l))
 untested d [] (succeeded v t e) h = absurd cc
 untested d [] (ret a) h = tail_untested (is_dst d a)
 untested d [] (br a t e) h = jump_untested (eqb t e)
@@ -90,13 +93,22 @@ module _ (b : Body) (n : ℕ) (x : Block) (there : block_at b n ≡ Some x) wher
     pub long : k + length xs ≡ length x.chain
 
   pub all_from : From x.chain 0
-  all_from = record { sets = λ j. ap (λ i. set_from x.chain i x.before x.last) (let h : plus j 0 ≡ j + 0 = plus_is j 0 in omega (arith, h)); long = omega arith }
+  all_from = record {
+    sets = λ j. ap (λ i. set_from x.chain i x.before x.last)
+        (let h : plus j 0 ≡ j + 0 = plus_is j 0 in omega (arith, h));
+    long = omega arith;
+  }
 
   pub tail_from : (y : Set) (ys : List Set) (k : ℕ) → From (y ∷ ys) k → From ys (suc k)
   unfolding plus
-  tail_from y ys k h = record { sets = λ j. h.sets (suc j); long = let l : k + length (y ∷ ys) ≡ length x.chain = h.long in omega (arith, l) }
+  tail_from y ys k h = record {
+    sets = λ j. h.sets (suc j);
+    long = let l : k + length (y ∷ ys) ≡ length x.chain = h.long
+        in omega (arith, l);
+  }
 
-  pub head_there : (y : Set) (ys : List Set) (k : ℕ) → From (y ∷ ys) k → set_at b (point n k) ≡ Some (y, mode_of y.dst ys x.before x.last)
+  pub head_there : (y : Set) (ys : List Set) (k : ℕ) → From (y ∷ ys) k
+      → set_at b (point n k) ≡ Some (y, mode_of y.dst ys x.before x.last)
   unfolding plus
   head_there y ys k h = ap (λ o. set_in o k) there ∙ sym (h.sets zero)
 
@@ -105,10 +117,13 @@ module _ (b : Body) (n : ℕ) (x : Block) (there : block_at b n ≡ Some x) wher
   At [] k hs = IsTrue (tests_nothing (Some x.last)) → Reached b (point n k) hs
   At (y ∷ ys) k hs = Reached b (point n k) hs
 
-  pub passed : (y : Set) (m : Mode) (k : ℕ) (hs : List Handler) → set_at b (point n k) ≡ Some (y, m) → IsFalse (is_tests m) → Reached b (point n k) hs → Reached b (point n (suc k)) (after_op y.op hs)
-  passed y m k hs e t (vs, w) = (_, goes (point n k) (point n (suc k)) vs hs (after_op y.op hs) _ w (passes (point n k) hs y m e t))
+  pub passed : (y : Set) (m : Mode) (k : ℕ) (hs : List Handler) → set_at b (point n k) ≡ Some (y, m)
+      → IsFalse (is_tests m) → Reached b (point n k) hs → Reached b (point n (suc k)) (after_op y.op hs)
+  passed y m k hs e t (vs, w) =
+      (_, goes (point n k) (point n (suc k)) vs hs (after_op y.op hs) _ w (passes (point n k) hs y m e t))
 
-  pub at_next : (y : Set) (ys : List Set) (k : ℕ) (hs : List Handler) → From (y ∷ ys) k → Reached b (point n k) hs → At ys (suc k) (after_op y.op hs)
+  pub at_next : (y : Set) (ys : List Set) (k : ℕ) (hs : List Handler) → From (y ∷ ys) k → Reached b (point n k) hs
+      → At ys (suc k) (after_op y.op hs)
   at_next y [] k hs h r = λ t. passed y _ k hs (head_there y [] k h) (untested y.dst x.before x.last t) r
   at_next y (z ∷ zs) k hs h r = passed y _ k hs (head_there y (z ∷ zs) k h) refl r
 
@@ -154,20 +169,30 @@ module _ (b : Body) (n : ℕ) (x : Block) (there : block_at b n ≡ Some x) wher
     Chained (finish u q) = u.left ≤ s.left
     Chained After.bad = Unit {0}
 
-  module _ {S : Type 0} (o : Storage S) (around : Around) (here : Here) (lowers : Lowers here.enter) (open_in : S → List Handler) (tracks : Tracks o open_in) where
+  module _ {S : Type 0} (o : Storage S) (around : Around) (here : Here) (lowers : Lowers here.enter)
+      (open_in : S → List Handler) (tracks : Tracks o open_in) where
     abbrev pub walk : Frame S → State → Walk S
     walk f s = record { o = o; around = around; here = here; open_in = open_in; tracks = tracks; f0 = f; s0 = s }
 
     -- Frame actions.
 
-    acts_only : (as' : List FrameAction) (f0 : Frame S) (s0 : State) (f : Frame S) (s : State) → Eases open_in f0 s0 f s → OnlyOn open_in f0 s0 (acts_do o around here as' f s)
+    acts_only : (as' : List FrameAction) (f0 : Frame S) (s0 : State) (f : Frame S) (s : State) → Eases open_in f0 s0 f s
+        → OnlyOn open_in f0 s0 (acts_do o around here as' f s)
     acts_only [] f0 s0 f s e = e
-    acts_only (a ∷ as') f0 s0 f s e = some_holds (λ y. OnlyOn open_in f0 s0 (go_on y (acts_do o around here as'))) tt (o.acts (in_window f) a f.store) _ (λ st p.
-        acts_only as' f0 s0 (kept f st) s (record { low = e.low; handlers = tracks.acts (in_window f) a f.store st p ∙ e.handlers; fits = e.fits; falls = e.falls }))
+    acts_only (a ∷ as') f0 s0 f s e = some_holds (λ y. OnlyOn open_in f0 s0 (go_on y (acts_do o around here as'))) tt
+        (o.acts (in_window f) a f.store) _ (λ st p.
+        acts_only as' f0 s0 (kept f st) s
+        (record {
+          low = e.low;
+          handlers = tracks.acts (in_window f) a f.store st p ∙ e.handlers;
+          fits = e.fits;
+          falls = e.falls;
+        }))
 
     -- A set.
 
-    steps_after : (op : Op) (m : Mode) (dst : Option ℕ) (f : Frame S) (s : State) (g : Frame S) (u : State) (a : After S) → Eases open_in f s g u → Steps open_in op m dst g u a → Steps open_in op m dst f s a
+    steps_after : (op : Op) (m : Mode) (dst : Option ℕ) (f : Frame S) (s : State) (g : Frame S) (u : State)
+        (a : After S) → Eases open_in f s g u → Steps open_in op m dst g u a → Steps open_in op m dst f s a
     steps_after op m dst f s g u (next h v) e p = record {
       low = let l : v.left ≤ u.left = p.low in let k : u.left ≤ s.left = e.low in omega (arith, l, k);
       handlers = p.handlers ∙ ap (after_op op) e.handlers;
@@ -194,25 +219,33 @@ module _ (b : Body) (n : ℕ) (x : Block) (there : block_at b n ≡ Some x) wher
     steps_after op m dst f s g u After.bad e p = tt
 
     set_after : (m : Mode) (y : Set) (f : Frame S) (s : State) (a : After S) → Fits f s → OnlyOn open_in f s a
-        → Steps open_in y.op m y.dst f s (go_on a (λ g u. does o around here y.op y.args m y.dst (all_held o around here g y.args) g u))
-    set_after m y f s (next g u) i e = steps_after y.op m y.dst f s g u _ e (steps (walk g u) lowers (e.fits i) y.op y.args m y.dst (all_held o around here g y.args))
+        → Steps open_in y.op m y.dst f s
+        (go_on a (λ g u. does o around here y.op y.args m y.dst (all_held o around here g y.args) g u))
+    set_after m y f s (next g u) i e = steps_after y.op m y.dst f s g u _ e
+        (steps (walk g u) lowers (e.fits i) y.op y.args m y.dst (all_held o around here g y.args))
     set_after m y f s After.bad i e = tt
     set_after m y f s (choose c g u) i e = absurd e
     set_after m y f s (raise c z g u) i e = absurd e
     set_after m y f s (finish u q) i e = absurd e
 
-    pub set_steps : (m : Mode) (y : Set) (f : Frame S) (s : State) → Fits f s → Steps open_in y.op m y.dst f s (set_does o around here m y f s)
-    set_steps m y f s i = set_after m y f s (acts_do o around here y.before f s) i (acts_only y.before f s f s (eased open_in f s))
+    pub set_steps : (m : Mode) (y : Set) (f : Frame S) (s : State) → Fits f s
+        → Steps open_in y.op m y.dst f s (set_does o around here m y f s)
+    set_steps m y f s i = set_after m y f s (acts_do o around here y.before f s) i
+        (acts_only y.before f s f s (eased open_in f s))
 
     -- A chain, from its end on.
 
-    chained_after : (y : Set) (ys : List Set) (f : Frame S) (s : State) (g : Frame S) (u : State) (a : After S) → Passes open_in y.op (mode_of y.dst ys x.before x.last) y.dst f s g u → Chained open_in ys g u a → Chained open_in (y ∷ ys) f s a
+    chained_after : (y : Set) (ys : List Set) (f : Frame S) (s : State) (g : Frame S) (u : State) (a : After S)
+        → Passes open_in y.op (mode_of y.dst ys x.before x.last) y.dst f s g u → Chained open_in ys g u a
+        → Chained open_in (y ∷ ys) f s a
     chained_after y ys f s g u (next h v) p q = record {
       low = let l : v.left ≤ u.left = q.low in let k : u.left ≤ s.left = p.low in omega (arith, l, k);
       fits = q.fits;
       reached = q.reached;
-      falls = λ r. let e : IsFalse (breaks_cycle y.op) × IsFalse (any_op breaks_cycle ys) = or_false _ _ r in most_twice _ _ _ (q.falls e.1) (p.falls e.0);
-      looks = λ r t. let e : IsFalse (breaks_cycle y.op) × IsFalse (any_op breaks_cycle ys) = or_false _ _ r in then_most _ _ _ (q.looks e.1 (or_second _ _ t p.no_look)) (p.falls e.0);
+      falls = λ r. let e : IsFalse (breaks_cycle y.op) × IsFalse (any_op breaks_cycle ys) =
+          or_false _ _ r in most_twice _ _ _ (q.falls e.1) (p.falls e.0);
+      looks = λ r t. let e : IsFalse (breaks_cycle y.op) × IsFalse (any_op breaks_cycle ys) =
+          or_false _ _ r in then_most _ _ _ (q.looks e.1 (or_second _ _ t p.no_look)) (p.falls e.0);
     }
     chained_after y ys f s g u (choose c h v) p q = record {
       low = let l : v.left ≤ u.left = q.low in let k : u.left ≤ s.left = p.low in omega (arith, l, k);
@@ -226,8 +259,10 @@ module _ (b : Body) (n : ℕ) (x : Block) (there : block_at b n ≡ Some x) wher
       handlers = q.handlers;
       starts = q.starts;
       last = q.last;
-      falls = λ r. let e : IsFalse (breaks_cycle y.op) × IsFalse (any_op breaks_cycle ys) = or_false _ _ r in most_twice _ _ _ (q.falls e.1) (p.falls e.0);
-      looks = λ r t. let e : IsFalse (breaks_cycle y.op) × IsFalse (any_op breaks_cycle ys) = or_false _ _ r in then_most _ _ _ (q.looks e.1 (or_second _ _ t p.no_look)) (p.falls e.0);
+      falls = λ r. let e : IsFalse (breaks_cycle y.op) × IsFalse (any_op breaks_cycle ys) =
+          or_false _ _ r in most_twice _ _ _ (q.falls e.1) (p.falls e.0);
+      looks = λ r t. let e : IsFalse (breaks_cycle y.op) × IsFalse (any_op breaks_cycle ys) =
+          or_false _ _ r in then_most _ _ _ (q.looks e.1 (or_second _ _ t p.no_look)) (p.falls e.0);
     }
     chained_after y ys f s g u (raise c z h v) p q = record {
       low = let l : v.left ≤ u.left = q.low in let k : u.left ≤ s.left = p.low in omega (arith, l, k);
@@ -245,11 +280,13 @@ module _ (b : Body) (n : ℕ) (x : Block) (there : block_at b n ≡ Some x) wher
     nothing_looks y [] e t = or_nothing _ _ t refl
     nothing_looks y (z ∷ zs) e t = absurd cc
 
-    chain_after : (y : Set) (ys : List Set) (k : ℕ) (f : Frame S) (s : State) (a : After S) (c : Frame S → State → After S) → From (y ∷ ys) k → Reached b (point n k) (open_in f.store)
+    chain_after : (y : Set) (ys : List Set) (k : ℕ) (f : Frame S) (s : State) (a : After S)
+        (c : Frame S → State → After S) → From (y ∷ ys) k → Reached b (point n k) (open_in f.store)
         → Steps open_in y.op (mode_of y.dst ys x.before x.last) y.dst f s a
         → ((g : Frame S) (u : State) → Fits g u → At ys (suc k) (open_in g.store) → Chained open_in ys g u (c g u))
         → Chained open_in (y ∷ ys) f s (go_on a c)
-    chain_after y ys k f s (next g u) c h r p i = chained_after y ys f s g u (c g u) p (i g u p.fits (subst (At ys (suc k)) (sym p.handlers) (at_next y ys k (open_in f.store) h r)))
+    chain_after y ys k f s (next g u) c h r p i = chained_after y ys f s g u (c g u) p
+        (i g u p.fits (subst (At ys (suc k)) (sym p.handlers) (at_next y ys k (open_in f.store) h r)))
     chain_after y ys k f s (choose v g u) c h r p i = record {
       low = p.low;
       fits = p.fits;
@@ -261,19 +298,33 @@ module _ (b : Body) (n : ℕ) (x : Block) (there : block_at b n ≡ Some x) wher
       reached = r;
       handlers = p.handlers;
       starts = p.starts;
-      last = let t : Tested ys x.last p.tested = tested_by y.dst ys x.before x.last p.tested p.mode in record { nothing_after = refl; var = t.var; holds = t.holds; last = t.last };
+      last = let t : Tested ys x.last p.tested = tested_by y.dst ys x.before x.last p.tested p.mode
+          in record { nothing_after = refl; var = t.var; holds = t.holds; last = t.last };
       falls = λ q. p.falls (or_false _ _ q).0;
-      looks = λ q l. let t : Tested ys x.last p.tested = tested_by y.dst ys x.before x.last p.tested p.mode in p.looks (nothing_looks y ys t.nothing_after l);
+      looks = λ q l. let t : Tested ys x.last p.tested =
+          tested_by y.dst ys x.before x.last p.tested p.mode in p.looks (nothing_looks y ys t.nothing_after l);
     }
-    chain_after y ys k f s (raise v z g u) c h r p i = record { low = p.low; at = k; by = y; mode = mode_of y.dst ys x.before x.last; is_there = head_there y ys k h; reached = subst (Reached b (point n k)) (sym p.handlers) r; may = p.may }
+    chain_after y ys k f s (raise v z g u) c h r p i = record {
+      low = p.low;
+      at = k;
+      by = y;
+      mode = mode_of y.dst ys x.before x.last;
+      is_there =
+          head_there y ys k h;
+      reached = subst (Reached b (point n k)) (sym p.handlers) r;
+      may = p.may;
+    }
     chain_after y ys k f s (finish u q) c h r p i = p
     chain_after y ys k f s After.bad c h r p i = tt
 
-    ended_chain : (k : ℕ) (f : Frame S) (s : State) (a : After S) → From [] k → At [] k (open_in f.store) → Fits f s → OnlyOn open_in f s a → Chained open_in [] f s a
+    ended_chain : (k : ℕ) (f : Frame S) (s : State) (a : After S) → From [] k → At [] k (open_in f.store) → Fits f s
+        → OnlyOn open_in f s a → Chained open_in [] f s a
     ended_chain k f s (next g u) h r i e = record {
       low = e.low;
       fits = e.fits i;
-      reached = λ t. subst (λ j. Reached b (point n j) (open_in g.store)) (let l : k + 0 ≡ length x.chain = h.long in omega (arith, l)) (subst (Reached b (point n k)) (sym e.handlers) (r t));
+      reached = λ t. subst (λ j. Reached b (point n j) (open_in g.store))
+          (let l : k + 0 ≡ length x.chain = h.long in omega (arith, l))
+          (subst (Reached b (point n k)) (sym e.handlers) (r t));
       falls = λ q. e.falls;
       looks = λ q l. absurd cc;
     }
@@ -282,6 +333,9 @@ module _ (b : Body) (n : ℕ) (x : Block) (there : block_at b n ≡ Some x) wher
     ended_chain k f s (raise c z g u) h r i e = absurd e
     ended_chain k f s (finish u q) h r i e = absurd e
 
-    pub chain_steps : (ys : List Set) (k : ℕ) (f : Frame S) (s : State) → From ys k → At ys k (open_in f.store) → Fits f s → Chained open_in ys f s (chain_does o around here x.before x.last ys f s)
+    pub chain_steps : (ys : List Set) (k : ℕ) (f : Frame S) (s : State) → From ys k → At ys k (open_in f.store)
+        → Fits f s → Chained open_in ys f s (chain_does o around here x.before x.last ys f s)
     chain_steps [] k f s h r i = ended_chain k f s _ h r i (acts_only x.before f s f s (eased open_in f s))
-    chain_steps (y ∷ ys) k f s h r i = chain_after y ys k f s _ _ h r (set_steps (mode_of y.dst ys x.before x.last) y f s i) (λ g u j t. chain_steps ys (suc k) g u (tail_from y ys k h) t j)
+    chain_steps (y ∷ ys) k f s h r i = chain_after y ys k f s _ _ h r
+        (set_steps (mode_of y.dst ys x.before x.last) y f s i)
+        (λ g u j t. chain_steps ys (suc k) g u (tail_from y ys k h) t j)

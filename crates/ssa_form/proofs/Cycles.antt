@@ -32,9 +32,11 @@ or_split false b c = refl
 
 has_twice : (f : Op → Bool) (b : Body) (ns ms : List ℕ) → any_has f b (ns ++ ms) ≡ (any_has f b ns || any_has f b ms)
 has_twice f b [] ms = refl
-has_twice f b (n ∷ ns) ms = ap (λ x. block_has f (block_at b n) || x) (has_twice f b ns ms) ∙ sym (or_split (block_has f (block_at b n)) (any_has f b ns) (any_has f b ms))
+has_twice f b (n ∷ ns) ms = ap (λ x. block_has f (block_at b n) || x) (has_twice f b ns ms)
+    ∙ sym (or_split (block_has f (block_at b n)) (any_has f b ns) (any_has f b ms))
 
-first_passed : (f : Op → Bool) (b : Body) (n m : ℕ) (ns : List ℕ) → Passing b n m ns → IsFalse (any_has f b ns) → IsFalse (block_has f (block_at b n))
+first_passed : (f : Op → Bool) (b : Body) (n m : ℕ) (ns : List ℕ) → Passing b n m ns → IsFalse (any_has f b ns)
+    → IsFalse (block_has f (block_at b n))
 first_passed f b _ _ _ (one n m h) e = (split_or _ _ e).0
 first_passed f b _ _ _ (more n m l ns h p) e = (split_or _ _ e).0
 
@@ -46,14 +48,16 @@ less_or_same : (a b : ℕ) → a ≤ b → (suc a ≤ b) ⊎ (a ≡ b)
 less_or_same zero zero l = inr refl
 less_or_same zero (suc b) l = inl (omega arith)
 less_or_same (suc a) zero l = inr (omega (arith, l))
-less_or_same (suc a) (suc b) l = ⊎_elim (λ h. inl (omega (arith, h))) (λ e. inr (omega (arith, e))) (less_or_same a b (omega (arith, l)))
+less_or_same (suc a) (suc b) l =
+    ⊎_elim (λ h. inl (omega (arith, h))) (λ e. inr (omega (arith, e))) (less_or_same a b (omega (arith, l)))
 
 low_then : (s u : State) (r : Ended) → u.left ≤ s.left → Low u r → Low s r
 low_then s u (done v q) l h = omega (arith, l, h)
 low_then s u Ended.bad l h = tt
 low_then s u unfinished l h = tt
 
-module _ {S : Type 0} (o : Storage S) (around : Around) (here : Here) (lowers : Lowers here.enter) (open_in : S → List Handler) (tracks : Tracks o open_in) (b : Body) where
+module _ {S : Type 0} (o : Storage S) (around : Around) (here : Here) (lowers : Lowers here.enter)
+    (open_in : S → List Handler) (tracks : Tracks o open_in) (b : Body) where
   abbrev Goes' : Config S → Config S → Type 0
   Goes' c d = Goes o around here lowers open_in tracks b c d
 
@@ -65,40 +69,55 @@ module _ {S : Type 0} (o : Storage S) (around : Around) (here : Here) (lowers : 
 
   goes_twice : (c d e : Config S) → Goes' c d → Goes' d e → Goes' c e
   goes_twice c d e p q = record {
-    low = let k : d.state.left ≤ c.state.left = p.low in let l : e.state.left ≤ d.state.left = q.low in omega (arith, k, l);
+    low = let k : d.state.left ≤ c.state.left =
+        p.low in let l : e.state.left ≤ d.state.left = q.low in omega (arith, k, l);
     through = p.through ++ q.through;
     passing = passing_twice b c.at d.at e.at p.through q.through p.passing q.passing;
-    falls = λ r h. let s : IsFalse (any_has breaks_cycle b p.through) × IsFalse (any_has breaks_cycle b q.through) = parts r in
+    falls = λ r h. let s : IsFalse (any_has breaks_cycle b p.through) × IsFalse (any_has breaks_cycle b q.through) =
+        parts r in
         most_twice _ _ _ (q.falls s.1 h) (p.falls s.0 (first_passed breaks_cycle b d.at e.at q.through q.passing s.1));
-    looks = λ r h t. let s : IsFalse (any_has breaks_cycle b p.through) × IsFalse (any_has breaks_cycle b q.through) = parts r in
+    looks = λ r h t. let s : IsFalse (any_has breaks_cycle b p.through) × IsFalse (any_has breaks_cycle b q.through) =
+        parts r in
         by_look s h (any_has is_peek b p.through) refl t;
   }
     where
-      parts : IsFalse (any_has breaks_cycle b (p.through ++ q.through)) → IsFalse (any_has breaks_cycle b p.through) × IsFalse (any_has breaks_cycle b q.through)
+      parts : IsFalse (any_has breaks_cycle b (p.through ++ q.through)) → IsFalse (any_has breaks_cycle b p.through)
+          × IsFalse (any_has breaks_cycle b q.through)
       parts r = split_or _ _ (sym (has_twice breaks_cycle b p.through q.through) ∙ r)
 
       second : (a z : Bool) → a ≡ false → (a || z) ≡ true → z ≡ true
       second true z f g = absurd cc
       second false z f g = g
 
-      by_look : IsFalse (any_has breaks_cycle b p.through) × IsFalse (any_has breaks_cycle b q.through) → IsFalse (block_has breaks_cycle (block_at b e.at)) → (a : Bool) → any_has is_peek b p.through ≡ a → IsTrue (any_has is_peek b (p.through ++ q.through)) → Lower (rank e.frame e.state) (rank c.frame c.state)
-      by_look s h true i t = most_then _ _ _ (q.falls s.1 h) (p.looks s.0 (first_passed breaks_cycle b d.at e.at q.through q.passing s.1) i)
-      by_look s h false i t = then_most _ _ _ (q.looks s.1 h (second _ _ i (sym (has_twice is_peek b p.through q.through) ∙ t))) (p.falls s.0 (first_passed breaks_cycle b d.at e.at q.through q.passing s.1))
+      by_look : IsFalse (any_has breaks_cycle b p.through) × IsFalse (any_has breaks_cycle b q.through)
+          → IsFalse (block_has breaks_cycle (block_at b e.at)) → (a : Bool) → any_has is_peek b p.through ≡ a
+          → IsTrue (any_has is_peek b (p.through ++ q.through)) → Lower (rank e.frame e.state) (rank c.frame c.state)
+      by_look s h true i t = most_then _ _ _ (q.falls s.1 h)
+          (p.looks s.0 (first_passed breaks_cycle b d.at e.at q.through q.passing s.1) i)
+      by_look s h false i t = then_most _ _ _
+          (q.looks s.1 h (second _ _ i (sym (has_twice is_peek b p.through q.through) ∙ t)))
+          (p.falls s.0 (first_passed breaks_cycle b d.at e.at q.through q.passing s.1))
 
   -- A run is over, or stands before a block with a number of at least a.
   data Reach (a : ℕ) (c : Config S) : Type 0 where
     is_over : (j : ℕ) (r : Ended) → ((k : ℕ) → run (over_and j k) c ≡ r) → r ≢ unfinished → Low c.state r → Reach a c
     stays : a ≤ c.at → Reach a c
-    comes : (d : Config S) (j : ℕ) → ((k : ℕ) → run (over_and j k) c ≡ run k d) → Good' d → Goes' c d → a ≤ d.at → Reach a c
+    comes : (d : Config S) (j : ℕ) → ((k : ℕ) → run (over_and j k) c ≡ run k d) → Good' d → Goes' c d
+        → a ≤ d.at → Reach a c
 
-  reach_after : (a : ℕ) (c d : Config S) (i : ℕ) → ((k : ℕ) → run (over_and i k) c ≡ run k d) → Good' d → Goes' c d → Reach a d → Reach a c
-  reach_after a c d i h g p (is_over j r q u l) = is_over (over_and i j) r (λ k. ap (λ n. run n c) (over_twice i j k) ∙ h (over_and j k) ∙ q k) u (low_then c.state d.state r p.low l)
+  reach_after : (a : ℕ) (c d : Config S) (i : ℕ) → ((k : ℕ) → run (over_and i k) c ≡ run k d) → Good' d → Goes' c d
+      → Reach a d → Reach a c
+  reach_after a c d i h g p (is_over j r q u l) = is_over (over_and i j) r
+      (λ k. ap (λ n. run n c) (over_twice i j k) ∙ h (over_and j k) ∙ q k) u (low_then c.state d.state r p.low l)
   reach_after a c d i h g p (stays l) = comes d i h g p l
-  reach_after a c d i h g p (comes e j q f r l) = comes e (over_and i j) (λ k. ap (λ n. run n c) (over_twice i j k) ∙ h (over_and j k) ∙ q k) f (goes_twice c d e p r) l
+  reach_after a c d i h g p (comes e j q f r l) = comes e (over_and i j)
+      (λ k. ap (λ n. run n c) (over_twice i j k) ∙ h (over_and j k) ∙ q k) f (goes_twice c d e p r) l
 
   module _ (rule : CycleRule b) where
     cycle_falls : (c d : Config S) → Goes' c d → c.at ≡ d.at → Lower (rank d.frame d.state) (rank c.frame c.state)
-    cycle_falls c d p e = p.looks keeps.goes_on (subst (λ n. IsFalse (block_has breaks_cycle (block_at b n))) e (first_passed breaks_cycle b c.at d.at p.through p.passing keeps.goes_on)) keeps.looks
+    cycle_falls c d p e = p.looks keeps.goes_on
+        (subst (λ n. IsFalse (block_has breaks_cycle (block_at b n))) e
+        (first_passed breaks_cycle b c.at d.at p.through p.passing keeps.goes_on)) keeps.looks
       where
         keeps : KeepsCycle b p.through
         keeps = rule c.at p.through (subst (λ n. Passing b c.at n p.through) (sym e) p.passing)
@@ -107,16 +126,23 @@ module _ {S : Type 0} (o : Storage S) (around : Around) (here : Here) (lowers : 
       abbrev Loops : Rank → Type 0
       Loops r = (c : Config S) → Good' c → rank c.frame c.state ≡ r → c.at ≡ a → Reach (suc a) c
 
-      behind : (r : Rank) → ((q : Rank) → Lower q r → Loops q) → (c : Config S) → rank c.frame c.state ≡ r → c.at ≡ a → (d : Config S) (j : ℕ) → ((k : ℕ) → run (over_and j k) c ≡ run k d) → Good' d → Goes' c d → a ≤ d.at → Reach (suc a) c
+      behind : (r : Rank) → ((q : Rank) → Lower q r → Loops q) → (c : Config S) → rank c.frame c.state ≡ r → c.at ≡ a
+          → (d : Config S) (j : ℕ) → ((k : ℕ) → run (over_and j k) c ≡ run k d) → Good' d → Goes' c d → a ≤ d.at
+          → Reach (suc a) c
       behind r ih c e at d j h g p l = ⊎_elim
           (λ m. comes d j h g p m)
-          (λ q. reach_after (suc a) c d j h g p (ih (rank d.frame d.state) (subst (Lower (rank d.frame d.state)) e (cycle_falls c d p (at ∙ q))) d g refl (sym q)))
+          (λ q. reach_after (suc a) c d j h g p
+          (ih (rank d.frame d.state) (subst (Lower (rank d.frame d.state)) e (cycle_falls c d p (at ∙ q))) d g refl
+          (sym q)))
           (less_or_same a d.at l)
 
-      next : (r : Rank) → ((q : Rank) → Lower q r → Loops q) → (c : Config S) → rank c.frame c.state ≡ r → c.at ≡ a → (d : Config S) → ((k : ℕ) → run (suc k) c ≡ run k d) → Good' d → Goes' c d → Reach a d → Reach (suc a) c
-      next r ih c e at d h g p (is_over j q i u l) = is_over (suc j) q (λ k. h (over_and j k) ∙ i k) u (low_then c.state d.state q p.low l)
+      next : (r : Rank) → ((q : Rank) → Lower q r → Loops q) → (c : Config S) → rank c.frame c.state ≡ r → c.at ≡ a
+          → (d : Config S) → ((k : ℕ) → run (suc k) c ≡ run k d) → Good' d → Goes' c d → Reach a d → Reach (suc a) c
+      next r ih c e at d h g p (is_over j q i u l) =
+          is_over (suc j) q (λ k. h (over_and j k) ∙ i k) u (low_then c.state d.state q p.low l)
       next r ih c e at d h g p (stays l) = behind r ih c e at d 1 h g p l
-      next r ih c e at d h g p (comes f j i k m l) = behind r ih c e at f (suc j) (λ n. h (over_and j n) ∙ i n) k (goes_twice c d f p m) l
+      next r ih c e at d h g p (comes f j i k m l) =
+          behind r ih c e at f (suc j) (λ n. h (over_and j n) ∙ i n) k (goes_twice c d f p m) l
 
       looped : (r : Rank) → ((q : Rank) → Lower q r → Loops q) → Loops r
       looped r ih c g e at = by_turn (turn o around here lowers open_in tracks b c g)
@@ -131,7 +157,8 @@ module _ {S : Type 0} (o : Storage S) (around : Around) (here : Here) (lowers : 
       further : (c : Config S) → Good' c → Reach a c → Reach (suc a) c
       further c g (is_over j r h u l) = is_over j r h u l
       further c g (stays l) = ⊎_elim (λ m. stays m) (λ q. loops c g (sym q)) (less_or_same a c.at l)
-      further c g (comes d j h i p l) = ⊎_elim (λ m. comes d j h i p m) (λ q. reach_after (suc a) c d j h i p (loops d i (sym q))) (less_or_same a d.at l)
+      further c g (comes d j h i p l) = ⊎_elim (λ m. comes d j h i p m)
+          (λ q. reach_after (suc a) c d j h i p (loops d i (sym q))) (less_or_same a d.at l)
 
     reach : (a : ℕ) (c : Config S) → Good' c → Reach a c
     reach zero c g = stays (omega arith)
@@ -139,7 +166,8 @@ module _ {S : Type 0} (o : Storage S) (around : Around) (here : Here) (lowers : 
 
     past_all : (c : Config S) (k : ℕ) → length b.blocks ≤ c.at → run (suc k) c ≡ Ended.bad
     unfolding blocks
-    past_all c k l = ap (λ y. block_does o around here (or_none y) (blocks o around here b k) c.raised c.from c.at c.frame c.state) (slice_get_past b.blocks c.at l)
+    past_all c k l = ap (λ y. block_does o around here (or_none y)
+        (blocks o around here b k) c.raised c.from c.at c.frame c.state) (slice_get_past b.blocks c.at l)
 
     bad_over : (r : Ended) → r ≡ Ended.bad → r ≢ unfinished
     bad_over r e f = let g : Ended.bad ≡ unfinished = sym e ∙ f in cc
@@ -157,7 +185,8 @@ module _ {S : Type 0} (o : Storage S) (around : Around) (here : Here) (lowers : 
   same_end : (s : State) (r t : Ended) → r ≡ t → Low s r → Low s t
   same_end s r t e l = subst (Low s) e l
 
-  pub runs_lower : (k : ℕ) (c : Config S) → Good' c → (u : State) (q : Outcome Term) → run k c ≡ done u q → u.left ≤ c.state.left
+  pub runs_lower : (k : ℕ) (c : Config S) → Good' c → (u : State) (q : Outcome Term) → run k c ≡ done u q
+      → u.left ≤ c.state.left
   unfolding blocks
   runs_lower zero c g u q e = absurd cc
   runs_lower (suc k) c g u q e = by_turn (λ d i. runs_lower k d i u q) (turn o around here lowers open_in tracks b c g)
@@ -169,7 +198,10 @@ module _ {S : Type 0} (o : Storage S) (around : Around) (here : Here) (lowers : 
       not_open : (r : Ended) → r ≡ done u q → r ≢ unfinished
       not_open r p h = let z : done u q ≡ unfinished = sym p ∙ h in cc
 
-      by_turn : ((d : Config S) → Good' d → run k d ≡ done u q → u.left ≤ d.state.left) → Turn o around here lowers open_in tracks b c → u.left ≤ c.state.left
+      by_turn : ((d : Config S) → Good' d → run k d ≡ done u q → u.left ≤ d.state.left)
+          → Turn o around here lowers open_in tracks b c → u.left ≤ c.state.left
       by_turn ih (ends j r h w l) = same_end c.state r (done u q)
-          (sym (h (suc k)) ∙ More.more o around here b (suc k) (over_and j (suc k)) (over_more j (suc k)) c.raised c.from c.at c.frame c.state (not_open _ e) ∙ e) l
-      by_turn ih (turns d h i p) = let l : u.left ≤ d.state.left = ih d i (sym (h k) ∙ e) in let m : d.state.left ≤ c.state.left = p.low in omega (arith, l, m)
+          (sym (h (suc k)) ∙ More.more o around here b (suc k) (over_and j (suc k))
+          (over_more j (suc k)) c.raised c.from c.at c.frame c.state (not_open _ e) ∙ e) l
+      by_turn ih (turns d h i p) = let l : u.left ≤ d.state.left =
+          ih d i (sym (h k) ∙ e) in let m : d.state.left ≤ c.state.left = p.low in omega (arith, l, m)

@@ -10,53 +10,68 @@ use Rattle.ssa_form.specs.Storage.{Held, term, Handler, Storage, Frame, After, n
 use Rattle.ssa_form.specs.Operations.{held}
 use Rattle.ssa_form.specs.SsaRun.{Raised, picked, truth_in, choice_of, leave, leave_next, leave_choose, raised_to, switched, goes_by, either_end, unless_looking, block_does, entered_by, blocks, in_vars, ssa_run, SsaGives}
 
-either_more : (b : Bool) (p q r t : Ended) → (p ≢ unfinished → r ≡ p) → (q ≢ unfinished → t ≡ q) → either_end b p q ≢ unfinished → either_end b r t ≡ either_end b p q
+either_more : (b : Bool) (p q r t : Ended) → (p ≢ unfinished → r ≡ p) → (q ≢ unfinished → t ≡ q)
+    → either_end b p q ≢ unfinished → either_end b r t ≡ either_end b p q
 either_more true p q r t h g u = h u
 either_more false p q r t h g u = g u
 
-looking_more : (w : Option Message) (p q : Ended) → (p ≢ unfinished → q ≡ p) → unless_looking w p ≢ unfinished → unless_looking w q ≡ unless_looking w p
+looking_more : (w : Option Message) (p q : Ended) → (p ≢ unfinished → q ≡ p) → unless_looking w p ≢ unfinished
+    → unless_looking w q ≡ unless_looking w p
 looking_more None p q h u = h u
 looking_more (Some m) p q h u = refl
 
 module _ {S : Type 0} (o : Storage S) (around : Around) (here : Here) where
   -- where f ends, g ends so too
   abbrev Extends : (f g : Option Raised → ℕ → ℕ → Frame S → State → Ended) → Type 0
-  Extends f g = (e : Option Raised) (m n : ℕ) (x : Frame S) (s : State) → f e m n x s ≢ unfinished → g e m n x s ≡ f e m n x s
+  Extends f g = (e : Option Raised) (m n : ℕ) (x : Frame S) (s : State) → f e m n x s ≢ unfinished
+      → g e m n x s ≡ f e m n x s
 
   module _ (f g : Option Raised → ℕ → ℕ → Frame S → State → Ended) (h : Extends f g) where
-    by_more : (b : Option Bool) (n t e : ℕ) (x : Frame S) (s : State) → goes_by o around here b f n t e x s ≢ unfinished → goes_by o around here b g n t e x s ≡ goes_by o around here b f n t e x s
+    by_more : (b : Option Bool) (n t e : ℕ) (x : Frame S) (s : State) → goes_by o around here b f n t e x s ≢ unfinished
+        → goes_by o around here b g n t e x s ≡ goes_by o around here b f n t e x s
     by_more None n t e x s u = refl
     by_more (Some b) n t e x s u = h None n (picked b t e) x s u
 
-    switch_more : (v : Held) (n d : ℕ) (cs : List (Term × ℕ)) (x : Frame S) (s : State) → switched o around here v f n d cs x s ≢ unfinished → switched o around here v g n d cs x s ≡ switched o around here v f n d cs x s
+    switch_more : (v : Held) (n d : ℕ) (cs : List (Term × ℕ)) (x : Frame S) (s : State)
+        → switched o around here v f n d cs x s ≢ unfinished
+        → switched o around here v g n d cs x s ≡ switched o around here v f n d cs x s
     unfolding switched
     switch_more (term t) n d cs x s u = h None n (choice_of cs t d) x s u
     switch_more _ n d cs x s u = refl
 
-    on_more : (n : ℕ) (l : Last) (x : Frame S) (s : State) → leave_next o around here f n l x s ≢ unfinished → leave_next o around here g n l x s ≡ leave_next o around here f n l x s
-    on_more n (br a t e) x s u = either_more (eqb t e) _ _ _ _ (h None n t x s) (by_more (truth_in (held o around here x a)) n t e x s) u
+    on_more : (n : ℕ) (l : Last) (x : Frame S) (s : State) → leave_next o around here f n l x s ≢ unfinished
+        → leave_next o around here g n l x s ≡ leave_next o around here f n l x s
+    on_more n (br a t e) x s u =
+        either_more (eqb t e) _ _ _ _ (h None n t x s) (by_more (truth_in (held o around here x a)) n t e x s) u
     on_more n (succeeded v t e) x s u = refl
     on_more n (switch a d cs) x s u = switch_more (held o around here x a) n d cs x s u
     on_more n (ret a) x s u = refl
 
-    pick_more : (n : ℕ) (l : Last) (b : Bool) (x : Frame S) (s : State) → leave_choose o around here f n l b x s ≢ unfinished → leave_choose o around here g n l b x s ≡ leave_choose o around here f n l b x s
+    pick_more : (n : ℕ) (l : Last) (b : Bool) (x : Frame S) (s : State)
+        → leave_choose o around here f n l b x s ≢ unfinished
+        → leave_choose o around here g n l b x s ≡ leave_choose o around here f n l b x s
     pick_more n (br a t e) b x s u = refl
     pick_more n (succeeded v t e) b x s u = h None n (picked b t e) x s u
     pick_more n (switch a d cs) b x s u = refl
     pick_more n (ret a) b x s u = refl
 
-    raised_more : (i : Option Handler) (n : ℕ) (c : Class) (r : Term) (x : Frame S) (s : State) → raised_to o around here i f n c r x s ≢ unfinished → raised_to o around here i g n c r x s ≡ raised_to o around here i f n c r x s
+    raised_more : (i : Option Handler) (n : ℕ) (c : Class) (r : Term) (x : Frame S) (s : State)
+        → raised_to o around here i f n c r x s ≢ unfinished
+        → raised_to o around here i g n c r x s ≡ raised_to o around here i f n c r x s
     raised_more (Some i) n c r x s u = h _ n _ _ s u
     raised_more None n c r x s u = refl
 
-    leave_more : (n : ℕ) (l : Last) (a : After S) → leave o around here f n l a ≢ unfinished → leave o around here g n l a ≡ leave o around here f n l a
+    leave_more : (n : ℕ) (l : Last) (a : After S) → leave o around here f n l a ≢ unfinished
+        → leave o around here g n l a ≡ leave o around here f n l a
     leave_more n l (next x s) u = on_more n l x s u
     leave_more n l (choose b x s) u = pick_more n l b x s u
     leave_more n l (raise c r x s) u = looking_more x.window _ _ (raised_more (o.handler x.store) n c r x s) u
     leave_more n l (finish s r) u = refl
     leave_more n l After.bad u = refl
 
-    block_more : (b : Option Block) (e : Option Raised) (m n : ℕ) (x : Frame S) (s : State) → block_does o around here b f e m n x s ≢ unfinished → block_does o around here b g e m n x s ≡ block_does o around here b f e m n x s
+    block_more : (b : Option Block) (e : Option Raised) (m n : ℕ) (x : Frame S) (s : State)
+        → block_does o around here b f e m n x s ≢ unfinished
+        → block_does o around here b g e m n x s ≡ block_does o around here b f e m n x s
     block_more None e m n x s u = refl
     block_more (Some b) e m n x s u = leave_more n b.last (entered_by o around here m n b e x s) u
 
@@ -75,7 +90,8 @@ module _ {S : Type 0} (o : Storage S) (around : Around) (here : Here) where
       split : (a b : ℕ) → a ≤ suc b → (a ≤ b) ⊎ (suc b ≡ a)
       split zero b l = inl (omega arith)
       split (suc a) zero l = inr (omega (arith, l))
-      split (suc a) (suc b) l = ⊎_elim (λ h. inl (omega (arith, h))) (λ e. inr (omega (arith, e))) (split a b (omega (arith, l)))
+      split (suc a) (suc b) l =
+          ⊎_elim (λ h. inl (omega (arith, h))) (λ e. inr (omega (arith, e))) (split a b (omega (arith, l)))
 
 order : (a b : ℕ) → (a ≤ b) ⊎ (b ≤ a)
 order zero b = inl (omega arith)
@@ -93,9 +109,12 @@ same_done r q e = ap (λ x. result_in x r) e
 not_unfinished : (s : State) (p : Outcome Term) (x : Ended) → x ≡ done s p → x ≢ unfinished
 not_unfinished s p x e u = let d : done s p ≡ unfinished = sym e ∙ u in cc
 
-pub one_result : (around : Around) (here : Here) (b : Body) (vs : Values) (s : State) (r q : State × Outcome Term) → SsaGives around here b vs s r → SsaGives around here b vs s q → r ≡ q
+pub one_result : (around : Around) (here : Here) (b : Body) (vs : Values) (s : State) (r q : State × Outcome Term)
+    → SsaGives around here b vs s r → SsaGives around here b vs s q → r ≡ q
 unfolding ssa_run
 one_result around here b vs s r q g h = ⊎_elim
-    (λ l. sym (same_done _ _ (sym h.ends ∙ more in_vars around here b g.within h.within l _ _ _ _ _ (not_unfinished _ _ _ g.ends) ∙ g.ends)))
-    (λ l. same_done _ _ (sym g.ends ∙ more in_vars around here b h.within g.within l _ _ _ _ _ (not_unfinished _ _ _ h.ends) ∙ h.ends))
+    (λ l. sym (same_done _ _
+    (sym h.ends ∙ more in_vars around here b g.within h.within l _ _ _ _ _ (not_unfinished _ _ _ g.ends) ∙ g.ends)))
+    (λ l. same_done _ _ (sym g.ends
+    ∙ more in_vars around here b h.within g.within l _ _ _ _ _ (not_unfinished _ _ _ h.ends) ∙ h.ends))
     (order g.within h.within)

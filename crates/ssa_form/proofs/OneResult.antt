@@ -31,25 +31,33 @@ is_over (done s q) r e u = cc
 is_over Ended.bad r e u = cc
 is_over unfinished r e u = cc
 
-one_of : (run : ℕ → Ended) → Stays run → (k j : ℕ) (r q : State × Outcome Term) → result_of (run k) ≡ Some r → result_of (run j) ≡ Some q → r ≡ q
+one_of : (run : ℕ → Ended) → Stays run → (k j : ℕ) (r q : State × Outcome Term) → result_of (run k) ≡ Some r
+    → result_of (run j) ≡ Some q → r ≡ q
 one_of run h k j r q e f = ⊎_elim
     (λ l. some_same r q (sym e ∙ ap result_of (sym (h k j l (is_over (run k) r e))) ∙ f))
     (λ l. some_same r q (sym e ∙ ap result_of (h j k l (is_over (run j) q f)) ∙ f))
     (order k j)
 
-body_stays : {S : Type 0} (o : Storage S) (around : Around) (here : Here) (b : Body) (st : S) (cs : List MatchContext) (s : State) → Stays (λ k. body_run o around here b k st cs s)
+body_stays : {S : Type 0} (o : Storage S) (around : Around) (here : Here) (b : Body) (st : S) (cs : List MatchContext)
+    (s : State) → Stays (λ k. body_run o around here b k st cs s)
 body_stays o around here b st cs s k j l u = more o around here b k j l None 0 0 _ s u
 
-if_stays : {A : Type 0} (x : Option A) (run : ℕ → A → Ended) → ((a : A) → Stays (λ k. run k a)) → Stays (λ k. run_if x (run k))
+if_stays : {A : Type 0} (x : Option A) (run : ℕ → A → Ended) → ((a : A) → Stays (λ k. run k a))
+    → Stays (λ k. run_if x (run k))
 if_stays None run h k j l u = refl
 if_stays (Some a) run h k j l u = h a k j l u
 
 pub one_result_each : FormsHaveOneResult
 unfolding ssa_run placed_run framed_run
 one_result_each = record {
-  ssa = λ b around here vs s r q g h. one_of (λ k. ssa_run around here b k (all_terms vs) [] s) (body_stays in_vars around here b _ [] s) g.within h.within r q g.gives h.gives;
+  ssa = λ b around here vs s r q g h. one_of (λ k. ssa_run around here b k (all_terms vs) [] s)
+      (body_stays in_vars around here b _ [] s) g.within h.within r q g.gives h.gives;
   placed = λ p around here vs s r q g h. one_of (λ k. placed_run around here p k (all_terms vs) [] s)
-      (if_stays (Placed.params_in p.spots p.body.params (all_terms vs) no_registers) (λ k st. body_run (in_registers p.spots) around here p.body k st [] s) (λ st. body_stays (in_registers p.spots) around here p.body st [] s)) g.within h.within r q g.gives h.gives;
+      (if_stays (Placed.params_in p.spots p.body.params (all_terms vs) no_registers)
+      (λ k st. body_run (in_registers p.spots) around here p.body k st [] s)
+      (λ st. body_stays (in_registers p.spots) around here p.body st [] s)) g.within h.within r q g.gives h.gives;
   framed = λ p around here vs s r q g h. one_of (λ k. framed_run around here p k (all_terms vs) [] s)
-      (if_stays (Framed.params_in p.spots p.sizes p.body.params (all_terms vs) _) (λ k st. body_run (in_stack p.spots p.sizes) around here p.body k st [] s) (λ st. body_stays (in_stack p.spots p.sizes) around here p.body st [] s)) g.within h.within r q g.gives h.gives;
+      (if_stays (Framed.params_in p.spots p.sizes p.body.params (all_terms vs) _)
+      (λ k st. body_run (in_stack p.spots p.sizes) around here p.body k st [] s)
+      (λ st. body_stays (in_stack p.spots p.sizes) around here p.body st [] s)) g.within h.within r q g.gives h.gives;
 }

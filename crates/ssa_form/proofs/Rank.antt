@@ -20,17 +20,23 @@ pub data AtMost (a b : Rank) : Type 0 where
   lower : Lower a b → AtMost a b
   same : a.left ≡ b.left → a.replies ≡ b.replies → a.mailbox ≡ b.mailbox → a.ahead ≡ b.ahead → AtMost a b
 
-pub lower_same : (a b c : Rank) → b.left ≡ c.left → b.replies ≡ c.replies → b.mailbox ≡ c.mailbox → b.ahead ≡ c.ahead → Lower a b → Lower a c
+pub lower_same : (a b c : Rank) → b.left ≡ c.left → b.replies ≡ c.replies → b.mailbox ≡ c.mailbox → b.ahead ≡ c.ahead
+    → Lower a b → Lower a c
 lower_same a b c e f g h (by_left l) = by_left (omega (arith, l, e))
 lower_same a b c e f g h (by_replies p l) = by_replies (omega (arith, p, e)) (omega (arith, l, f))
-lower_same a b c e f g h (by_mailbox p q l) = by_mailbox (omega (arith, p, e)) (omega (arith, q, f)) (omega (arith, l, g))
-lower_same a b c e f g h (by_ahead p q r l) = by_ahead (omega (arith, p, e)) (omega (arith, q, f)) (omega (arith, r, g)) (omega (arith, l, h))
+lower_same a b c e f g h (by_mailbox p q l) =
+    by_mailbox (omega (arith, p, e)) (omega (arith, q, f)) (omega (arith, l, g))
+lower_same a b c e f g h (by_ahead p q r l) =
+    by_ahead (omega (arith, p, e)) (omega (arith, q, f)) (omega (arith, r, g)) (omega (arith, l, h))
 
-pub same_lower : (a b c : Rank) → a.left ≡ b.left → a.replies ≡ b.replies → a.mailbox ≡ b.mailbox → a.ahead ≡ b.ahead → Lower b c → Lower a c
+pub same_lower : (a b c : Rank) → a.left ≡ b.left → a.replies ≡ b.replies → a.mailbox ≡ b.mailbox → a.ahead ≡ b.ahead
+    → Lower b c → Lower a c
 same_lower a b c e f g h (by_left l) = by_left (omega (arith, l, e))
 same_lower a b c e f g h (by_replies p l) = by_replies (omega (arith, p, e)) (omega (arith, l, f))
-same_lower a b c e f g h (by_mailbox p q l) = by_mailbox (omega (arith, p, e)) (omega (arith, q, f)) (omega (arith, l, g))
-same_lower a b c e f g h (by_ahead p q r l) = by_ahead (omega (arith, p, e)) (omega (arith, q, f)) (omega (arith, r, g)) (omega (arith, l, h))
+same_lower a b c e f g h (by_mailbox p q l) =
+    by_mailbox (omega (arith, p, e)) (omega (arith, q, f)) (omega (arith, l, g))
+same_lower a b c e f g h (by_ahead p q r l) =
+    by_ahead (omega (arith, p, e)) (omega (arith, q, f)) (omega (arith, r, g)) (omega (arith, l, h))
 
 pub lower_twice : (a b c : Rank) → Lower a b → Lower b c → Lower a c
 lower_twice a b c (by_left l) (by_left m) = by_left (omega (arith, l, m))
@@ -43,12 +49,16 @@ lower_twice a b c (by_replies e l) (by_mailbox p q m) = by_replies (omega (arith
 lower_twice a b c (by_replies e l) (by_ahead p q r m) = by_replies (omega (arith, e, p)) (omega (arith, l, q))
 lower_twice a b c (by_mailbox e f l) (by_left m) = by_left (omega (arith, e, m))
 lower_twice a b c (by_mailbox e f l) (by_replies p m) = by_replies (omega (arith, e, p)) (omega (arith, f, m))
-lower_twice a b c (by_mailbox e f l) (by_mailbox p q m) = by_mailbox (omega (arith, e, p)) (omega (arith, f, q)) (omega (arith, l, m))
-lower_twice a b c (by_mailbox e f l) (by_ahead p q r m) = by_mailbox (omega (arith, e, p)) (omega (arith, f, q)) (omega (arith, l, r))
+lower_twice a b c (by_mailbox e f l) (by_mailbox p q m) =
+    by_mailbox (omega (arith, e, p)) (omega (arith, f, q)) (omega (arith, l, m))
+lower_twice a b c (by_mailbox e f l) (by_ahead p q r m) =
+    by_mailbox (omega (arith, e, p)) (omega (arith, f, q)) (omega (arith, l, r))
 lower_twice a b c (by_ahead e f g l) (by_left m) = by_left (omega (arith, e, m))
 lower_twice a b c (by_ahead e f g l) (by_replies p m) = by_replies (omega (arith, e, p)) (omega (arith, f, m))
-lower_twice a b c (by_ahead e f g l) (by_mailbox p q m) = by_mailbox (omega (arith, e, p)) (omega (arith, f, q)) (omega (arith, g, m))
-lower_twice a b c (by_ahead e f g l) (by_ahead p q r m) = by_ahead (omega (arith, e, p)) (omega (arith, f, q)) (omega (arith, g, r)) (omega (arith, l, m))
+lower_twice a b c (by_ahead e f g l) (by_mailbox p q m) =
+    by_mailbox (omega (arith, e, p)) (omega (arith, f, q)) (omega (arith, g, m))
+lower_twice a b c (by_ahead e f g l) (by_ahead p q r m) =
+    by_ahead (omega (arith, e, p)) (omega (arith, f, q)) (omega (arith, g, r)) (omega (arith, l, m))
 
 pub then_most : (a b c : Rank) → Lower a b → AtMost b c → Lower a c
 then_most a b c l (lower m) = lower_twice a b c l m
@@ -61,7 +71,8 @@ most_then a b c (same e f g h) m = same_lower a b c e f g h m
 pub most_twice : (a b c : Rank) → AtMost a b → AtMost b c → AtMost a c
 most_twice a b c (lower l) m = lower (then_most a b c l m)
 most_twice a b c (same e f g h) (lower m) = lower (same_lower a b c e f g h m)
-most_twice a b c (same e f g h) (same p q r s) = same (omega (arith, e, p)) (omega (arith, f, q)) (omega (arith, g, r)) (omega (arith, h, s))
+most_twice a b c (same e f g h) (same p q r s) =
+    same (omega (arith, e, p)) (omega (arith, f, q)) (omega (arith, g, r)) (omega (arith, h, s))
 
 -- Induction on ranks.
 
@@ -72,7 +83,8 @@ below_or_at P m n h p l = ⊎_elim (λ i. h m i) (λ e. subst P (sym e) p) (spli
     split zero zero l = inr refl
     split zero (suc b) l = inl (omega arith)
     split (suc a) zero l = inr (omega (arith, l))
-    split (suc a) (suc b) l = ⊎_elim (λ h. inl (omega (arith, h))) (λ e. inr (omega (arith, e))) (split a b (omega (arith, l)))
+    split (suc a) (suc b) l =
+        ⊎_elim (λ h. inl (omega (arith, h))) (λ e. inr (omega (arith, e))) (split a b (omega (arith, l)))
 
 strong : (P : ℕ → Type 0) → ((n : ℕ) → ((m : ℕ) → m < n → P m) → P n) → (n : ℕ) → P n
 strong P h n = h n (all_below n)
@@ -97,10 +109,13 @@ by_rank P h a =
         → ((k : ℕ) → k < d → P (record { left = l; replies = r; mailbox = m; ahead = k }))
         → (b : Rank) → Lower b (record { left = l; replies = r; mailbox = m; ahead = d }) → P b
     lowers l r m d hl hr hm hd b (by_left i) = hl b.left i b.replies b.mailbox b.ahead
-    lowers l r m d hl hr hm hd b (by_replies e i) = subst (λ x. P (record { left = x; replies = b.replies; mailbox = b.mailbox; ahead = b.ahead })) (sym e) (hr b.replies i b.mailbox b.ahead)
+    lowers l r m d hl hr hm hd b (by_replies e i) = subst
+        (λ x. P (record { left = x; replies = b.replies; mailbox = b.mailbox; ahead = b.ahead })) (sym e)
+        (hr b.replies i b.mailbox b.ahead)
     lowers l r m d hl hr hm hd b (by_mailbox e f i) =
         subst (λ x. P (record { left = x; replies = b.replies; mailbox = b.mailbox; ahead = b.ahead })) (sym e)
-        (subst (λ x. P (record { left = l; replies = x; mailbox = b.mailbox; ahead = b.ahead })) (sym f) (hm b.mailbox i b.ahead))
+        (subst (λ x. P (record { left = l; replies = x; mailbox = b.mailbox; ahead = b.ahead })) (sym f)
+        (hm b.mailbox i b.ahead))
     lowers l r m d hl hr hm hd b (by_ahead e f g i) =
         subst (λ x. P (record { left = x; replies = b.replies; mailbox = b.mailbox; ahead = b.ahead })) (sym e)
         (subst (λ x. P (record { left = l; replies = x; mailbox = b.mailbox; ahead = b.ahead })) (sym f)

@@ -19,8 +19,10 @@ receives_late : runs receive_loop (I 5 ∷ []) (ok [] ∷ ok (word (codes "hello
     ≡ done (record (start_with []) {
       mailbox = record { serial = 0; term = word (codes "hello") } ∷ [];
       next = 1;
-      notes = Run.happened (asked (W.wait (millis 5)) (ok [])) ∷ Run.happened (asked W.look (ok [])) ∷ Run.looked (record { serial = 0; accepted = false })
-          ∷ Run.happened (asked (W.wait (millis 5)) (ok (word (codes "hello") ∷ []))) ∷ Run.happened (asked W.look (ok [])) ∷ [];
+      notes = Run.happened (asked (W.wait (millis 5)) (ok [])) ∷ Run.happened (asked W.look (ok []))
+          ∷ Run.looked (record { serial = 0; accepted = false })
+          ∷ Run.happened (asked (W.wait (millis 5)) (ok (word (codes "hello") ∷ [])))
+          ∷ Run.happened (asked W.look (ok [])) ∷ [];
     }) (gives (word (codes "late")))
 unfolding ssa_run
 receives_late = refl
@@ -29,7 +31,8 @@ receives_second : runs receive_loop (I 5 ∷ []) (ok (I 1 ∷ word (codes "stop"
     ≡ done (record (start_with []) {
       mailbox = record { serial = 0; term = I 1 } ∷ [];
       next = 2;
-      notes = Run.happened (W.taken 1) ∷ Run.looked (record { serial = 1; accepted = true }) ∷ Run.looked (record { serial = 0; accepted = false })
+      notes = Run.happened (W.taken 1) ∷ Run.looked (record { serial = 1; accepted = true })
+          ∷ Run.looked (record { serial = 0; accepted = false })
           ∷ Run.happened (asked W.look (ok (I 1 ∷ word (codes "stop") ∷ []))) ∷ [];
     }) (gives (word (codes "stopped")))
 unfolding ssa_run
@@ -40,7 +43,8 @@ receives_nothing : outcome (runs receive_loop (I 0 ∷ []) (ok [] ∷ [])) ≡ g
 unfolding ssa_run
 receives_nothing = refl
 
-waits_for_more : outcome (runs receive_loop (word (codes "infinity") ∷ []) (ok [] ∷ [])) ≡ done (start_with []) (waits (W.wait W.forever))
+waits_for_more : outcome (runs receive_loop (word (codes "infinity") ∷ []) (ok [] ∷ []))
+    ≡ done (start_with []) (waits (W.wait W.forever))
 unfolding ssa_run
 waits_for_more = refl
 
@@ -60,7 +64,8 @@ head_is_missing : outcome (runs head_or (T.nil ∷ []) []) ≡ gives_term (word 
 unfolding ssa_run
 head_is_missing = refl
 
-raise_lands : outcome (runs tried (T.nil ∷ []) []) ≡ gives_term (tup (word (codes "error") ∷ word (codes "badarg") ∷ T.raw_trace T.error ∷ []))
+raise_lands : outcome (runs tried (T.nil ∷ []) [])
+    ≡ gives_term (tup (word (codes "error") ∷ word (codes "badarg") ∷ T.raw_trace T.error ∷ []))
 unfolding ssa_run
 raise_lands = refl
 
@@ -72,7 +77,9 @@ throw_is_caught : outcome (runs caught (I 3 ∷ []) []) ≡ gives_term (I 3)
 unfolding ssa_run
 throw_is_caught = refl
 
-call_is_noted : runs calls_once (I 4 ∷ []) [] ≡ done (record (start_with []) { left = 9; notes = Run.entered (record { site = 0; tail = false }) ∷ [] }) (gives (tup (tup (I 4 ∷ []) ∷ I 4 ∷ [])))
+call_is_noted : runs calls_once (I 4 ∷ []) []
+    ≡ done (record (start_with []) { left = 9; notes = Run.entered (record { site = 0; tail = false }) ∷ [] })
+    (gives (tup (tup (I 4 ∷ []) ∷ I 4 ∷ [])))
 unfolding ssa_run
 call_is_noted = refl
 
@@ -88,7 +95,8 @@ first_byte = body_of (0 ∷ []) (
 abbrev byte_of_five : Term
 byte_of_five = T.bits (false ∷ false ∷ false ∷ false ∷ false ∷ true ∷ false ∷ true ∷ true ∷ [])
 
-takes_byte : runs first_byte (byte_of_five ∷ []) [] ≡ done (record (start_with []) { notes = Run.cut 1 ∷ [] }) (gives (tup (I 5 ∷ T.bits (true ∷ []) ∷ [])))
+takes_byte : runs first_byte (byte_of_five ∷ []) []
+    ≡ done (record (start_with []) { notes = Run.cut 1 ∷ [] }) (gives (tup (I 5 ∷ T.bits (true ∷ []) ∷ [])))
 unfolding ssa_run
 takes_byte = refl
 
@@ -119,7 +127,8 @@ save_place_is_kept = refl
 
 abbrev peeks_twice : Body
 peeks_twice = body_of [] (
-    plain_block (set (Some 1) (peek 0) [] ∷ []) (succeeded 1 1 1) ∷ plain_block (set (Some 2) (peek 1) [] ∷ []) (succeeded 2 1 1) ∷ [])
+    plain_block (set (Some 1) (peek 0) [] ∷ []) (succeeded 1 1 1)
+    ∷ plain_block (set (Some 2) (peek 1) [] ∷ []) (succeeded 2 1 1) ∷ [])
 
 second_look_in_the_window : runs peeks_twice [] (ok (I 1 ∷ []) ∷ []) ≡ Ended.bad
 unfolding ssa_run
@@ -135,7 +144,8 @@ unfolding ssa_run
 failed_value_is_read = refl
 
 raise_in_the_window : runs (body_of [] (
-    plain_block (set (Some 1) (peek 0) [] ∷ []) (succeeded 1 1 1) ∷ plain_block (set (Some 2) (bif B.Hd) (var 1 ∷ []) ∷ []) (to 1) ∷ []))
+    plain_block (set (Some 1) (peek 0) [] ∷ []) (succeeded 1 1 1)
+    ∷ plain_block (set (Some 2) (bif B.Hd) (var 1 ∷ []) ∷ []) (to 1) ∷ []))
     [] (ok (I 1 ∷ []) ∷ []) ≡ Ended.bad
 unfolding ssa_run
 raise_in_the_window = refl

@@ -83,9 +83,11 @@ pub identity_is_well_formed : WellFormed identity
 identity_is_well_formed = record {
   sets_once = once;
   in_form = λ p hs x m r e. absurd (no_set p x m (at_start p hs r) e);
-  available = λ p vs hs w. subst (λ q. IsTrue (all_among (used_at identity q) vs)) (sym (only p vs hs w).at) (subst (λ us. IsTrue (all_among (used_at identity start) us)) (sym (only p vs hs w).vars) reads_param);
+  available = λ p vs hs w. subst (λ q. IsTrue (all_among (used_at identity q) vs)) (sym (only p vs hs w).at)
+      (subst (λ us. IsTrue (all_among (used_at identity start) us)) (sym (only p vs hs w).vars) reads_param);
   edges = λ p q vs hs is' e w s. absurd (no_step p q hs is' e (only p vs hs w).at s);
-  values = λ p hs r. subst (λ q. IsTrue (none_among (values_at identity q) (tags_in identity.blocks))) (sym (at_start p hs r)) no_tag;
+  values = λ p hs r. subst (λ q. IsTrue (none_among (values_at identity q) (tags_in identity.blocks)))
+      (sym (at_start p hs r)) no_tag;
   edge_values = λ p q hs is' e r s. absurd (no_step p q hs is' e (at_start p hs r) s);
   phis = λ n m l. absurd (no_lead n m l);
   starts = λ e. let f : Some (block [] [] (ret (var 0))) ≡ None = e in cc;

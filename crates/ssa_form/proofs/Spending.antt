@@ -35,9 +35,11 @@ uses_twice s u v (entry l) (reply e m) = entry (omega (arith, l, e))
 uses_twice s u v (entry l) (nothing e f g) = entry (omega (arith, l, e))
 uses_twice s u v (reply e l) (entry m) = entry (omega (arith, e, m))
 uses_twice s u v (reply e l) (reply f m) = reply (f ∙ e) (omega (arith, l, m))
-uses_twice s u v (reply e l) (nothing f g h) = let k : length v.replies ≡ length u.replies = ap length g in reply (f ∙ e) (omega (arith, l, k))
+uses_twice s u v (reply e l) (nothing f g h) =
+    let k : length v.replies ≡ length u.replies = ap length g in reply (f ∙ e) (omega (arith, l, k))
 uses_twice s u v (nothing e f g) (entry m) = entry (omega (arith, e, m))
-uses_twice s u v (nothing e f g) (reply h m) = let k : length u.replies ≡ length s.replies = ap length f in reply (h ∙ e) (omega (arith, m, k))
+uses_twice s u v (nothing e f g) (reply h m) =
+    let k : length u.replies ≡ length s.replies = ap length f in reply (h ∙ e) (omega (arith, m, k))
 uses_twice s u v (nothing e f g) (nothing h i j) = nothing (h ∙ e) (i ∙ f) (j ∙ g)
 
 pub uses_low : (s u : State) → Uses s u → u.left ≤ s.left
@@ -53,7 +55,8 @@ give_spends a = record { at = λ s. nothing refl refl refl }
 pub fail_spends : {A : Type 0} (c : Class) (r : Term) → Spends (fail {A = A} c r)
 fail_spends c r = record { at = λ s. nothing refl refl refl }
 
-then_spends : {A B : Type 0} (f : A → M B) → ((a : A) → Spends (f a)) → (s u : State) (q : Outcome A) → Uses s u → Uses s (after u q f).0
+then_spends : {A B : Type 0} (f : A → M B) → ((a : A) → Spends (f a)) → (s u : State) (q : Outcome A) → Uses s u
+    → Uses s (after u q f).0
 then_spends f h s u (gives a) w = uses_twice s u (f a u).0 w ((h a).at u)
 then_spends f h s u (raises c r) w = w
 then_spends f h s u (waits q) w = w
@@ -72,7 +75,13 @@ ask_spends q = record { at = λ s. ask_from_uses q s.replies s refl }
 replied_spends : (r : Reply) → Spends (replied r)
 replied_spends r = by_way r.how
   where
-    by_way : (w : W.How) → Spends (elim w [ W.return ↦ single r.term | W.error ↦ fail T.error r.term | W.exit ↦ fail T.exit r.term | W.throw ↦ fail T.throw r.term ])
+    by_way : (w : W.How) → Spends
+        (elim w [
+          | W.return ↦ single r.term
+          | W.error ↦ fail T.error r.term
+          | W.exit ↦ fail T.exit r.term
+          | W.throw ↦ fail T.throw r.term
+        ])
     by_way W.return = give_spends _
     by_way W.error = fail_spends _ _
     by_way W.exit = fail_spends _ _
@@ -84,7 +93,13 @@ call_out_spends m f vs = bind_spends _ _ (ask_spends _) replied_spends
 sent_spends : (t : Term) (r : Reply) → Spends (sent t r)
 sent_spends t r = by_way r.how
   where
-    by_way : (w : W.How) → Spends (elim w [ W.return ↦ single t | W.error ↦ fail T.error (word (codes "badarg")) | W.exit ↦ fail T.error (word (codes "badarg")) | W.throw ↦ fail T.error (word (codes "badarg")) ])
+    by_way : (w : W.How) → Spends
+        (elim w [
+          | W.return ↦ single t
+          | W.error ↦ fail T.error (word (codes "badarg"))
+          | W.exit ↦ fail T.error (word (codes "badarg"))
+          | W.throw ↦ fail T.error (word (codes "badarg"))
+        ])
     by_way W.return = give_spends _
     by_way W.error = fail_spends _ _
     by_way W.exit = fail_spends _ _
@@ -109,13 +124,19 @@ erlang_spends : (own : Term) (f : Name) (vs : Values) → Spends (call_erlang ow
 unfolding call_erlang
 erlang_spends own f vs = listed_or (lookup f (length vs))
   where
-    listed_or : (o : Option Bif) → Spends (elim o [ Some b ↦ answers (answer b own vs) | None ↦ if is_send f then send_or_call f vs else call_out (codes "erlang") f vs ])
+    listed_or : (o : Option Bif)
+        → Spends (elim o [
+          | Some b ↦ answers (answer b own vs)
+          | None ↦ if is_send f then send_or_call f vs
+              else call_out (codes "erlang") f vs
+        ])
     listed_or (Some b) = answers_spends (answer b own vs)
     listed_or None = if_spends (is_send f) _ _ (send_or_call_spends f vs) (call_out_spends _ f vs)
 
 pub remote_spends : (own m f : Term) (vs : Values) → Spends (call_terms own m f vs)
 unfolding call_terms
-remote_spends own (T.atom m) (T.atom f) vs = if_spends (same_name m (codes "erlang")) _ _ (erlang_spends own f vs) (call_out_spends m f vs)
+remote_spends own (T.atom m) (T.atom f) vs =
+    if_spends (same_name m (codes "erlang")) _ _ (erlang_spends own f vs) (call_out_spends m f vs)
 remote_spends own _ _ vs = fail_spends _ _
 
 if_stays : {A : Type 0} (b : Bool) (m n : M A) (s : State) → (m s).0 ≡ s → (n s).0 ≡ s → ((if b then m else n) s).0 ≡ s
@@ -125,7 +146,9 @@ if_stays false m n s h k = k
 put_each_stays : (qs : List Put) (ps : T.Pairs) (s : State) → (put_each qs ps s).0 ≡ s
 unfolding put_each
 put_each_stays [] ps s = refl
-put_each_stays (q ∷ qs) ps s = if_stays (q.exact && not (is_there (value_at ps q.key))) (fail {A = Values} T.error (tagged (codes "badkey") q.key)) (put_each qs (put q.key q.value ps)) s refl (put_each_stays qs (put q.key q.value ps) s)
+put_each_stays (q ∷ qs) ps s = if_stays (q.exact && not (is_there (value_at ps q.key)))
+    (fail {A = Values} T.error (tagged (codes "badkey") q.key)) (put_each qs (put q.key q.value ps)) s refl
+    (put_each_stays qs (put q.key q.value ps) s)
 
 pub put_all_stays : (qs : List Put) (t : Term) (s : State) → (put_all qs t s).0 ≡ s
 unfolding put_all
@@ -139,15 +162,19 @@ raise_again_stays _ r s = refl
 -- Calls of the module's functions.
 
 module _ (around : Around) (here : Here) (lowers : Lowers here.enter) where
-  entry_uses : (k : ℕ) (e : Entry) (n : ℕ) (vs : Values) (s : State) → k ≡ s.left → Uses s (entry_left k e (here.enter n vs) s).0
+  entry_uses : (k : ℕ) (e : Entry) (n : ℕ) (vs : Values) (s : State) → k ≡ s.left
+      → Uses s (entry_left k e (here.enter n vs) s).0
   entry_uses zero e n vs s p = nothing refl refl refl
-  entry_uses (suc k) e n vs s p = let l : (here.enter n vs (noting (entered e) (record s { left = k }))).0.left ≤ k = lowers n vs (noting (entered e) (record s { left = k })) in entry (omega (arith, l, p))
+  entry_uses (suc k) e n vs s p = let l : (here.enter n vs (noting (entered e) (record s { left = k }))).0.left ≤ k =
+      lowers n vs (noting (entered e) (record s { left = k })) in entry (omega (arith, l, p))
 
   pub call_spends : (n : ℕ) (t : Bool) (vs : Values) → Spends (calling here n t vs >>= single)
-  call_spends n t vs = bind_spends (calling here n t vs) single (record { at = λ s. entry_uses s.left _ n vs s refl }) (λ a. give_spends _)
+  call_spends n t vs = bind_spends (calling here n t vs) single (record { at = λ s. entry_uses s.left _ n vs s refl })
+      (λ a. give_spends _)
 
   pub applied_spends : (t : Term) (vs : Values) → Spends (apply_term (callees around.arities here) t vs)
-  applied_spends (T.fun m s a cs) vs = if_spends _ _ _ (fail_spends _ _) (if_spends _ _ _ (call_spends s false (vs ++ listed cs)) (call_out_spends _ _ _))
+  applied_spends (T.fun m s a cs) vs = if_spends _ _ _ (fail_spends _ _)
+      (if_spends _ _ _ (call_spends s false (vs ++ listed cs)) (call_out_spends _ _ _))
   applied_spends (T.extern m f a) vs = if_spends _ _ _ (fail_spends _ _) (call_out_spends _ _ _)
   applied_spends t vs = fail_spends _ _
 
@@ -159,22 +186,28 @@ one_long n h = grind arith
 two_long : (n : ℕ) → eqb (suc (suc (suc n))) 2 ≡ true → ⊥
 two_long n h = grind arith
 
-answers_two : (b : Bif) (own : Term) (vs : Values) (f : Term → Term → Term) → ((x y : Term) → answer b own (x ∷ y ∷ []) ≡ value (f x y)) → eqb (length vs) 2 ≡ true → (t : Term) × (answer b own vs ≡ value t)
+answers_two : (b : Bif) (own : Term) (vs : Values) (f : Term → Term → Term)
+    → ((x y : Term) → answer b own (x ∷ y ∷ []) ≡ value (f x y)) → eqb (length vs) 2 ≡ true
+    → (t : Term) × (answer b own vs ≡ value t)
 answers_two b own [] f h e = absurd cc
 answers_two b own (x ∷ []) f h e = absurd cc
 answers_two b own (x ∷ y ∷ []) f h e = (f x y, h x y)
 answers_two b own (x ∷ y ∷ z ∷ zs) f h e = absurd (two_long (length zs) e)
 
-answers_one : (b : Bif) (own : Term) (vs : Values) (f : Term → Term) → ((x : Term) → answer b own (x ∷ []) ≡ value (f x)) → eqb (length vs) 1 ≡ true → (t : Term) × (answer b own vs ≡ value t)
+answers_one : (b : Bif) (own : Term) (vs : Values) (f : Term → Term)
+    → ((x : Term) → answer b own (x ∷ []) ≡ value (f x)) → eqb (length vs) 1 ≡ true
+    → (t : Term) × (answer b own vs ≡ value t)
 answers_one b own [] f h e = absurd cc
 answers_one b own (x ∷ []) f h e = (f x, h x)
 answers_one b own (x ∷ y ∷ ys) f h e = absurd (one_long (length ys) e)
 
-answers_none : (b : Bif) (own : Term) (vs : Values) → answer b own [] ≡ value own → eqb (length vs) 0 ≡ true → (t : Term) × (answer b own vs ≡ value t)
+answers_none : (b : Bif) (own : Term) (vs : Values) → answer b own [] ≡ value own → eqb (length vs) 0 ≡ true
+    → (t : Term) × (answer b own vs ≡ value t)
 answers_none b own [] h e = (own, h)
 answers_none b own (x ∷ xs) h e = absurd (grind arith)
 
-pub answers_value : (b : Bif) (own : Term) (vs : Values) → IsTrue (never_raises b) → eqb (length vs) (arity_of b) ≡ true → (t : Term) × (answer b own vs ≡ value t)
+pub answers_value : (b : Bif) (own : Term) (vs : Values) → IsTrue (never_raises b) → eqb (length vs) (arity_of b) ≡ true
+    → (t : Term) × (answer b own vs ≡ value t)
 unfolding answer
 answers_value B.Equals own vs n e = answers_two B.Equals own vs _ (λ x y. refl) e
 answers_value B.Exactly own vs n e = answers_two B.Exactly own vs _ (λ x y. refl) e

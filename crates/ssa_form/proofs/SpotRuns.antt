@@ -17,7 +17,8 @@ one_spot_for_two = refl
 abbrev across_in_slot : Spots
 across_in_slot = (0, y_slot 0) ∷ (1, x_reg 0) ∷ (2, x_reg 0) ∷ []
 
-value_across_a_call : outcome (placed calls_once across_in_slot (I 4 ∷ []) []) ≡ gives_term (tup (tup (I 4 ∷ []) ∷ I 4 ∷ []))
+value_across_a_call : outcome (placed calls_once across_in_slot (I 4 ∷ []) [])
+    ≡ gives_term (tup (tup (I 4 ∷ []) ∷ I 4 ∷ []))
 unfolding placed_run
 value_across_a_call = refl
 
@@ -27,7 +28,8 @@ unfolding placed_run
 live_value_in_a_register = refl
 
 -- a message is looked at in an X register
-message_in_a_slot : placed receive_loop ((0, y_slot 0) ∷ (1, y_slot 1) ∷ (2, x_reg 0) ∷ []) (I 0 ∷ []) (ok (I 1 ∷ []) ∷ []) ≡ Ended.bad
+message_in_a_slot : placed receive_loop ((0, y_slot 0) ∷ (1, y_slot 1) ∷ (2, x_reg 0) ∷ []) (I 0 ∷ [])
+    (ok (I 1 ∷ []) ∷ []) ≡ Ended.bad
 unfolding placed_run
 message_in_a_slot = refl
 
@@ -36,9 +38,11 @@ message_in_a_slot = refl
 -- the frame is there from the start
 abbrev framed_call : Body
 framed_call = body_of (0 ∷ []) (
-    ending (set (Some 1) (call_local 0) (var 0 ∷ []) ∷ set (Some 2) tuple (var 1 ∷ var 0 ∷ []) ∷ []) (deallocate 1 ∷ []) (ret (var 2)) ∷ [])
+    ending (set (Some 1) (call_local 0) (var 0 ∷ []) ∷ set (Some 2) tuple (var 1 ∷ var 0 ∷ []) ∷ []) (deallocate 1 ∷ [])
+    (ret (var 2)) ∷ [])
 
-frame_around_a_call : outcome (framed framed_call across_in_slot ((0, 1) ∷ []) (I 4 ∷ []) []) ≡ gives_term (tup (tup (I 4 ∷ []) ∷ I 4 ∷ []))
+frame_around_a_call : outcome (framed framed_call across_in_slot ((0, 1) ∷ []) (I 4 ∷ []) [])
+    ≡ gives_term (tup (tup (I 4 ∷ []) ∷ I 4 ∷ []))
 unfolding framed_run
 frame_around_a_call = refl
 
@@ -61,7 +65,8 @@ late_call = body_of (0 ∷ []) (
     ∷ set (Some 6) tuple (var 5 ∷ var 4 ∷ []) ∷ []) (deallocate 1 ∷ []) (ret (var 6)) ∷ [])
 
 abbrev late_spots : Spots
-late_spots = (0, x_reg 0) ∷ (3, y_slot 0) ∷ (1, x_reg 0) ∷ (2, x_reg 0) ∷ (4, y_slot 1) ∷ (5, x_reg 0) ∷ (6, x_reg 0) ∷ []
+late_spots = (0, x_reg 0) ∷ (3, y_slot 0) ∷ (1, x_reg 0) ∷ (2, x_reg 0) ∷ (4, y_slot 1) ∷ (5, x_reg 0)
+    ∷ (6, x_reg 0) ∷ []
 
 late_and_trimmed_frame : outcome (framed late_call late_spots [] (I 4 ∷ []) [])
     ≡ gives_term (tup (tup (tup (tup (I 4 ∷ []) ∷ I 4 ∷ []) ∷ []) ∷ tup (tup (I 4 ∷ []) ∷ I 4 ∷ []) ∷ []))
@@ -83,18 +88,22 @@ abbrev nested : Body
 nested = body_of (0 ∷ []) (
     plain_block (set (Some 1) try_start [] ∷ []) (succeeded 1 1 2)
     ∷ plain_block (set (Some 2) try_start [] ∷ []) (succeeded 2 3 4)
-    ∷ ending (set (Some 3) landing (var 1 ∷ []) ∷ set None landing (var 1 ∷ []) ∷ set None landing (var 1 ∷ []) ∷ []) (deallocate 2 ∷ []) (ret (A (codes "outer")))
+    ∷ ending (set (Some 3) landing (var 1 ∷ []) ∷ set None landing (var 1 ∷ []) ∷ set None landing (var 1 ∷ []) ∷ [])
+    (deallocate 2 ∷ []) (ret (A (codes "outer")))
     ∷ plain_block (set (Some 4) (bif B.Hd) (var 0 ∷ []) ∷ []) (to 2)
-    ∷ ending (set (Some 5) landing (var 2 ∷ []) ∷ set (Some 6) landing (var 2 ∷ []) ∷ set None landing (var 2 ∷ []) ∷ set None try_end (var 1 ∷ []) ∷ []) (deallocate 2 ∷ []) (ret (var 6))
+    ∷ ending (set (Some 5) landing (var 2 ∷ []) ∷ set (Some 6) landing (var 2 ∷ []) ∷ set None landing (var 2 ∷ [])
+    ∷ set None try_end (var 1 ∷ []) ∷ []) (deallocate 2 ∷ []) (ret (var 6))
     ∷ [])
 
 abbrev nested_sizes : List (ℕ × ℕ)
 nested_sizes = (0, 2) ∷ (1, 2) ∷ (2, 2) ∷ (3, 2) ∷ (4, 2) ∷ []
 
 abbrev nested_spots : ℕ → ℕ → Spots
-nested_spots n m = (0, x_reg 0) ∷ (1, y_slot n) ∷ (2, y_slot m) ∷ (3, x_reg 0) ∷ (4, x_reg 0) ∷ (5, x_reg 0) ∷ (6, x_reg 1) ∷ []
+nested_spots n m = (0, x_reg 0) ∷ (1, y_slot n) ∷ (2, y_slot m) ∷ (3, x_reg 0) ∷ (4, x_reg 0) ∷ (5, x_reg 0)
+    ∷ (6, x_reg 1) ∷ []
 
-inner_handler_takes_it : outcome (framed nested (nested_spots 1 0) nested_sizes (T.nil ∷ []) []) ≡ gives_term (T.atom (codes "badarg"))
+inner_handler_takes_it : outcome (framed nested (nested_spots 1 0) nested_sizes (T.nil ∷ []) [])
+    ≡ gives_term (T.atom (codes "badarg"))
 unfolding framed_run
 inner_handler_takes_it = refl
 

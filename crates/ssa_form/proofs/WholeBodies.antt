@@ -33,7 +33,8 @@ numbered_in : (k : ℕ) (xs : List Set) (n : NodeId) → Contains (nodes_from k 
 numbered_in k [] n c = absurd (none_in n c)
 numbered_in k (x ∷ xs) n c = ⊎_elim
     (λ e. let f : k ≡ n.0 = ap (λ m. m.0) e in (omega (arith, f), omega (arith, f)))
-    (λ d. let p : (k + 1 ≤ n.0) × (n.0 < k + 1 + length xs) = numbered_in (k + 1) xs n d in (omega (arith, p.0), omega (arith, p.1)))
+    (λ d. let p : (k + 1 ≤ n.0) × (n.0 < k + 1 + length xs) = numbered_in (k + 1) xs n d
+    in (omega (arith, p.0), omega (arith, p.1)))
     (Contains-cons_cases (record { 0 = k }) n (nodes_from (k + 1) xs) c)
 
 module _ (old new : Body) (id : ℕ) (block : Block) (xs : List Set)
@@ -41,18 +42,22 @@ module _ (old new : Body) (id : ℕ) (block : Block) (xs : List Set)
     (chains : new.chains.chains ≡ old.chains.chains ++ nodes_from (length old.chains.sets) xs ∷ [])
     (sets : new.chains.sets ≡ old.chains.sets ++ xs) (whole : IsWhole old) where
   new_chain : chain_of new id ≡ Some (nodes_from (length old.chains.sets) xs)
-  new_chain = ap (chain_in new.chains) updates.changed ∙ ap (slice_get new.chains.chains) number ∙ ap (λ cs. slice_get cs (length old.chains.chains)) chains ∙ at_end old.chains.chains (nodes_from (length old.chains.sets) xs)
+  new_chain = ap (chain_in new.chains) updates.changed ∙ ap (slice_get new.chains.chains) number
+      ∙ ap (λ cs. slice_get cs (length old.chains.chains)) chains
+      ∙ at_end old.chains.chains (nodes_from (length old.chains.sets) xs)
 
   chain_kept : (o : Option Block) → chain_in old.chains o ≢ None → chain_in new.chains o ≡ chain_in old.chains o
   chain_kept None h = refl
   chain_kept (Some x) h = ap (λ cs. slice_get cs x.chain.0) chains ∙ kept_in old.chains.chains _ x.chain.0 h
 
   other_chain : (k : ℕ) → k ≢ id → get new.blocks k ≢ None → chain_of new k ≡ chain_of old k
-  other_chain k h n = ap (chain_in new.chains) (updates.others k h) ∙ chain_kept (get old.blocks k) (whole.chains k (λ e. n (updates.others k h ∙ e)))
+  other_chain k h n = ap (chain_in new.chains) (updates.others k h)
+      ∙ chain_kept (get old.blocks k) (whole.chains k (λ e. n (updates.others k h ∙ e)))
 
   chain_there : (k : ℕ) (b : Bool) → eqb k id ≡ b → get new.blocks k ≢ None → chain_of new k ≢ None
   chain_there k true e n = subst (λ i. chain_of new i ≢ None) (sym (eqb-true k id e)) (some_not _ _ new_chain)
-  chain_there k false e n = let h : k ≢ id = apart k e in λ f. whole.chains k (λ g. n (updates.others k h ∙ g)) (sym (other_chain k h n) ∙ f)
+  chain_there k false e n =
+      let h : k ≢ id = apart k e in λ f. whole.chains k (λ g. n (updates.others k h ∙ g)) (sym (other_chain k h n) ∙ f)
     where
       apart : (k : ℕ) → eqb k id ≡ false → k ≢ id
       apart k e p = let q : true ≡ false = sym (eq-eqb k id p) ∙ e in cc
@@ -61,23 +66,31 @@ module _ (old new : Body) (id : ℕ) (block : Block) (xs : List Set)
   set_kept n h e = h (sym (kept_in old.chains.sets xs n.0 h) ∙ ap (λ ys. slice_get ys n.0) (sym sets) ∙ e)
 
   new_set : (n : NodeId) → Contains (nodes_from (length old.chains.sets) xs) n → set_of_node new n.0 ≢ None
-  new_set n c e = let p : (length old.chains.sets ≤ n.0) × (n.0 < length old.chains.sets + length xs) = numbered_in (length old.chains.sets) xs n c in
-      within (old.chains.sets ++ xs) n.0 (let q : length (old.chains.sets ++ xs) ≡ length old.chains.sets + length xs = lengths old.chains.sets in omega (arith, p.1, q)) (ap (λ ys. slice_get ys n.0) (sym sets) ∙ e)
+  new_set n c e = let p : (length old.chains.sets ≤ n.0) × (n.0 < length old.chains.sets + length xs) =
+      numbered_in (length old.chains.sets) xs n c in
+      within (old.chains.sets ++ xs) n.0
+      (let q : length (old.chains.sets
+      ++ xs) ≡ length old.chains.sets + length xs = lengths old.chains.sets in omega (arith, p.1, q))
+      (ap (λ ys. slice_get ys n.0) (sym sets) ∙ e)
     where
       lengths : (ys : List Set) → length (ys ++ xs) ≡ length ys + length xs
       lengths [] = omega arith
       lengths (y ∷ ys) = let h : length (ys ++ xs) ≡ length ys + length xs = lengths ys in omega (arith, h)
 
-  node_there : (k : ℕ) (b : Bool) → eqb k id ≡ b → (n : NodeId) → Contains (nodes_of new k) n → set_of_node new n.0 ≢ None
-  node_there k true e n c = new_set n (subst (λ ns. Contains ns n) (ap nodes_in (ap (chain_of new) (eqb-true k id e) ∙ new_chain)) c)
+  node_there : (k : ℕ) (b : Bool) → eqb k id ≡ b → (n : NodeId) → Contains (nodes_of new k) n
+      → set_of_node new n.0 ≢ None
+  node_there k true e n c =
+      new_set n (subst (λ ns. Contains ns n) (ap nodes_in (ap (chain_of new) (eqb-true k id e) ∙ new_chain)) c)
   node_there k false e n c = by_block (get new.blocks k) refl
     where
       not_new : k ≢ id
       not_new p = let q : true ≡ false = sym (eq-eqb k id p) ∙ e in cc
 
       by_block : (x : Option Block) → get new.blocks k ≡ x → set_of_node new n.0 ≢ None
-      by_block None p = absurd (none_in n (subst (λ ns. Contains ns n) (ap (λ o. nodes_in (chain_in new.chains o)) p) c))
-      by_block (Some x) p = set_kept n (whole.sets k n (subst (λ ns. Contains ns n) (ap nodes_in (other_chain k not_new (some_not _ x p))) c))
+      by_block None p = absurd
+          (none_in n (subst (λ ns. Contains ns n) (ap (λ o. nodes_in (chain_in new.chains o)) p) c))
+      by_block (Some x) p = set_kept n
+          (whole.sets k n (subst (λ ns. Contains ns n) (ap nodes_in (other_chain k not_new (some_not _ x p))) c))
 
   pub grown : IsWhole new
   grown = record { chains = λ k n. chain_there k (eqb k id) refl n; sets = λ k n c. node_there k (eqb k id) refl n c }
@@ -99,7 +112,8 @@ next_in k (n ∷ ns) m e = Contains-cons n m ns (by_node (eqb n.0 k) e (next_in 
     first_is [] f = let g : None ≡ Some m = f in cc
     first_is (p ∷ ps) f = let q : p ≡ m = cc in subst (Contains (p ∷ ps)) q (first_in p ps)
 
-    by_node : (b : Bool) → (if b then first_of ns else next_after k ns) ≡ Some m → (next_after k ns ≡ Some m → Contains ns m) → Contains ns m
+    by_node : (b : Bool) → (if b then first_of ns else next_after k ns) ≡ Some m
+        → (next_after k ns ≡ Some m → Contains ns m) → Contains ns m
     by_node true f h = first_is ns f
     by_node false f h = h f
 

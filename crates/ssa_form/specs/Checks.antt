@@ -9,9 +9,9 @@ use Rattle.bif_table.specs.TermTests.{TypeTest, Comparison, type_holds, compare_
 use Rattle.ssa_form.specs.Ssa.{Check, test, compares, test_arity, is_tagged_tuple, has_map_fields}
 
 -- these tests want a tuple, or a map
-abbrev pub has_size : ℕ → Term → Option Bool
-has_size n (T.tuple ts) = Some (eqb (count ts) n)
-has_size n _ = None
+abbrev pub tuple_has_size : ℕ → Term → Option Bool
+tuple_has_size n (T.tuple ts) = Some (eqb (count ts) n)
+tuple_has_size n _ = None
 
 -- all keys are in a map
 unfoldable pub has_keys : Values → Pairs → Bool
@@ -36,7 +36,7 @@ comparison c _ = None
 
 -- of one term
 abbrev pub size_test : ℕ → Values → Option Bool
-size_test n (t ∷ []) = has_size n t
+size_test n (t ∷ []) = tuple_has_size n t
 size_test n _ = None
 
 -- of one term

@@ -6,7 +6,7 @@ use Rattle.erl_term.specs.Term.{Term}
 use Rattle.erl_term.specs.TermOrder.{same_term}
 use Rattle.erl_term.specs.Terms.{Values, terms, listed, word, only, value_at}
 use Rattle.erl_term.specs.Segments.{Shape, taken_size, segment_value}
-use Rattle.bif_table.specs.BuiltinAnswer.{Answer, value, raised, answer}
+use Rattle.bif_table.specs.BuiltinAnswer.{Answer, value, raised, answer, badarg}
 use Rattle.bif_table.specs.Builtins.{arity_of, is_guard, is_collecting}
 use Rattle.world_model.specs.World as W
 use Rattle.world_model.specs.World.{Reply, Message, Delay, forever, millis}
@@ -16,7 +16,7 @@ use Rattle.world_model.specs.MapUpdate.{put_all}
 use Rattle.world_model.specs.Receive.{Timeout, now, in', wrong, timeout_of, without, new_or}
 use Rattle.world_model.specs.References.{Standing, after_note, standing, save_place}
 use Rattle.world_model.specs.RemoteCalls.{takes, call_terms, apply_term, raise_again}
-use Rattle.world_model.specs.Requests.{badarg, send_to}
+use Rattle.world_model.specs.Requests.{send_to}
 use Rattle.step_machine.specs.Bodies.{Here, calling, callees}
 use Rattle.step_machine.specs.Frames.{MatchContext, moved, rest_of}
 use Rattle.ssa_form.specs.Ssa as Ssa
@@ -24,7 +24,7 @@ use Rattle.ssa_form.specs.Ssa.{Arg, var, lit, Op}
 use Rattle.bif_table.specs.TermTests.{compare_holds}
 use Rattle.ssa_form.specs.Checks.{check_holds, has_keys}
 use Rattle.ssa_form.specs.Storage.{Held, unset, term, context, position, marker, Leaving, calls, ends_body, always_raises, Storage, Frame, After, next, choose, raise, finish, bad, Mode, plain, tail, jump, tests, Around, in_window, go_on, when, if_some, outside, inside, kept}
-use Rattle.ssa_form.specs.Values.{terms_of, handed, never_returns, puts_of, parts_of, is_tail}
+use Rattle.ssa_form.specs.Values.{terms_of, handed, raises_for_sure, puts_of, parts_of, is_tail}
 
 module _ {S : Type 0} (o : Storage S) (around : Around) (here : Here) where
   -- what an operand holds
@@ -113,7 +113,7 @@ module _ {S : Type 0} (o : Storage S) (around : Around) (here : Here) where
   -- a call by module and name
   abbrev pub remote_does : Mode → Option ℕ → Values → Frame S → State → After S
   remote_does mode dst (m ∷ g ∷ vs) f s =
-      calls_by mode (leaving_of (never_returns m g (length vs))) dst (call_terms here.own m g vs) f s
+      calls_by mode (leaving_of (raises_for_sure m g (length vs))) dst (call_terms here.own m g vs) f s
   remote_does mode dst _ f s = bad
 
   -- a call of a term

@@ -93,5 +93,6 @@ block_at b n = or_none (slice_get b.blocks n)
 abbrev pub set : Option ℕ → Op → List Arg → Set
 set dst op args = record { before = []; dst = dst; op = op; args = args }
 
+-- a block with nothing put before its last operation
 abbrev pub block : List Phi → List Set → Last → Block
 block ps xs l = record { phis = ps; chain = xs; before = []; last = l }

@@ -1,6 +1,5 @@
 -- Values on their way into operations and calls.
-use Rattle.std.specs.Prelude.{ℕ, suc, List, [], ◌∷◌, slice_get, Bool, true, false, not, ◌&&◌, ◌||◌, eqb, Option, Some, None, if◌then◌else◌, codes}
-use Rattle.erl_base.specs.Names.{same_name}
+use Rattle.std.specs.Prelude.{ℕ, suc, List, [], ◌∷◌, slice_get, Bool, true, false, not, ◌&&◌, ◌||◌, eqb, Option, Some, None, if◌then◌else◌}
 use Rattle.erl_term.specs.Term as T
 use Rattle.erl_term.specs.Term.{Term}
 use Rattle.erl_term.specs.Terms.{Values}
@@ -71,11 +70,10 @@ handed_from i ends cs reached n (h ∷ hs) =
 abbrev pub handed : Bool → List MatchContext → List (ℕ × ℕ) → ℕ → List Held → Option Values
 handed ends cs reached n hs = handed_from 0 ends cs reached n hs
 
--- a function of the module erlang that always raises
-abbrev pub never_returns : Term → Term → ℕ → Bool
-never_returns (T.atom m) (T.atom f) n =
-    same_name m (codes "erlang") && B.raises_always f n
-never_returns _ _ n = false
+-- a call by terms of a function that always raises
+abbrev pub raises_for_sure : Term → Term → ℕ → Bool
+raises_for_sure (T.atom m) (T.atom f) n = B.never_returns m f n
+raises_for_sure _ _ n = false
 
 -- Operands in groups: keys with values, values with sizes.
 

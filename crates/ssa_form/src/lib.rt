@@ -1,7 +1,20 @@
-//! Bodies of functions as basic blocks in SSA form, plain, with spots and with stack frames; who makes them is said
-//! elsewhere. A law's function has no code: its contract is the law.
-// Every call that takes memory may answer NoMemory, which no clause ties to a cause; tests show that the calls can
-// succeed. `Arg::default` fills unused places of short lists, and no clause speaks of it.
+//! Bodies of functions as basic blocks in SSA form, plain, with spots and with stack frames: what they mean, and which
+//! are well formed. Who makes them is said elsewhere.
+//!
+//! A function that gives `{X,1}` is one block with the set `v1 = tuple v0 1` and the last `ret v1`. With spots v0 and
+//! v1 are in X register 0; with frames the block says too which stack frame it has.
+//!
+//! - What an operation does stands once, in `Operations`, over any storage of values. The three forms differ in their
+//!   storage alone.
+//! - Reading what is not there, as a spot that holds another variable's value, breaks a rule; a broken run is a result
+//!   of its own.
+//! - A body at a stage of the compiler is an `Ssa` of that stage, which allows well-formed bodies only.
+//!
+//! Sound, since under the cycle rule each form's meaning is total, and a well-formed body never looks at a variable
+//! that was not set. A law's function has no code: its contract is the law.
+//!
+//! Nothing here checks or changes a body. `Arg::default` fills unused places of short lists, and no clause speaks of
+//! it.
 #![tactic(auto)]
 
 mod args;
@@ -32,6 +45,3 @@ pub use placed::{
 };
 pub use small::SmallList;
 pub use stage::{Formed, Ssa, Stage};
-
-#[cfg(test)]
-mod tests;

@@ -22,15 +22,20 @@ once_trans a b c (inr p) (inl q) = inr (subst (λ r. (a.end ≡ unfinished) × L
 once_trans a b c (inr p) (inr q) = inr (p.0, later_trans a.log b.log c.log p.1 q.1)
 
 module _ {S : Type 0} (step : S → Stepped S) where
-  pub perform_grows : (s : Stepped S) (f : S → List Reply → List Event → Ran) → ((m : S) (rs : List Reply) (log : List Event) → Later log (f m rs log).log) → (rs : List Reply) (log : List Event) → Later log (perform s f rs log).log
+  pub perform_grows : (s : Stepped S) (f : S → List Reply → List Event → Ran)
+      → ((m : S) (rs : List Reply) (log : List Event) → Later log (f m rs log).log)
+      → (rs : List Reply) (log : List Event) → Later log (perform s f rs log).log
   perform_grows (goes m) f h rs log = h m rs log
   perform_grows (ends o) f h rs log = ([], refl)
   perform_grows bad f h rs log = ([], refl)
   perform_grows (notes n s) f h rs log = later_trans log (n ∷ log) _ (n ∷ [], refl) (perform_grows s f h rs (n ∷ log))
   perform_grows (asks q a) f h [] log = ([], refl)
-  perform_grows (asks q a) f h (r ∷ rs) log = later_trans log _ _ (happened (asked q r) ∷ [], refl) (perform_grows (a r) f h rs _)
+  perform_grows (asks q a) f h (r ∷ rs) log =
+      later_trans log _ _ (happened (asked q r) ∷ [], refl) (perform_grows (a r) f h rs _)
 
-  perform_once : (s : Stepped S) (f g : S → List Reply → List Event → Ran) → ((m : S) (rs : List Reply) (log : List Event) → Once (f m rs log) (g m rs log)) → (rs : List Reply) (log : List Event) → Once (perform s f rs log) (perform s g rs log)
+  perform_once : (s : Stepped S) (f g : S → List Reply → List Event → Ran)
+      → ((m : S) (rs : List Reply) (log : List Event) → Once (f m rs log) (g m rs log))
+      → (rs : List Reply) (log : List Event) → Once (perform s f rs log) (perform s g rs log)
   perform_once (goes m) f g h rs log = h m rs log
   perform_once (ends o) f g h rs log = inl refl
   perform_once bad f g h rs log = inl refl
@@ -38,7 +43,8 @@ module _ {S : Type 0} (step : S → Stepped S) where
   perform_once (asks q a) f g h [] log = inl refl
   perform_once (asks q a) f g h (r ∷ rs) log = perform_once (a r) f g h rs _
 
-  pub run_once : (k : ℕ) (m : S) (rs : List Reply) (log : List Event) → Once (run step k m rs log) (run step (suc k) m rs log)
+  pub run_once : (k : ℕ) (m : S) (rs : List Reply) (log : List Event)
+      → Once (run step k m rs log) (run step (suc k) m rs log)
   unfolding run
   run_once zero m rs log = inr (refl, perform_grows (step m) (run step zero) (λ n ss l. ([], refl)) rs log)
   run_once (suc k) m rs log = perform_once (step m) (run step k) (run step (suc k)) (run_once k) rs log
@@ -65,7 +71,8 @@ module _ (R : ℕ → Ran) (E : ℕ → Meant) (once : (k : ℕ) → Once (R k) 
       split : (a b : ℕ) → a ≤ suc b → (a ≤ b) ⊎ (suc b ≡ a)
       split zero b l = inl (omega arith)
       split (suc a) zero l = inr (omega (arith, l))
-      split (suc a) (suc b) l = ⊎_elim (λ h. inl (omega (arith, h))) (λ e. inr (omega (arith, e))) (split a b (omega (arith, l)))
+      split (suc a) (suc b) l =
+          ⊎_elim (λ h. inl (omega (arith, h))) (λ e. inr (omega (arith, e))) (split a b (omega (arith, l)))
 
   order : (a b : ℕ) → (a ≤ b) ⊎ (b < a)
   order zero b = inl (omega arith)
@@ -80,7 +87,11 @@ module _ (R : ℕ → Ran) (E : ℕ → Meant) (once : (k : ℕ) → Once (R k) 
 
   more_sites : (a b : Ran) → Once a b → length (sites a.log) ≤ length (sites b.log)
   more_sites a b (inl e) = omega (arith, ap (λ r. length (sites r.log)) e)
-  more_sites a b (inr h) = omega (arith, ap (λ l. length (sites l)) h.1.1 ∙ ap length (sites-append h.1.0 a.log) ∙ length-append (sites h.1.0) (sites a.log))
+  more_sites a b (inr h) = omega (
+    arith,
+    ap (λ l. length (sites l)) h.1.1 ∙ ap length (sites-append h.1.0 a.log)
+        ∙ length-append (sites h.1.0) (sites a.log),
+  )
 
   -- a run that goes on past a spent meaning has entered once more
   not_past : (k : ℕ) → at k < k → (R (at k)).end ≡ unfinished → ⊥
@@ -105,12 +116,15 @@ module _ (R : ℕ → Ran) (E : ℕ → Meant) (once : (k : ℕ) → Once (R k) 
           omega (arith, a, b, c, d)
 
   core : (k : ℕ) → Once (R k) (R (at k))
-  core k = ⊎_elim (λ l. far k (at k) l) (λ l. ⊎_elim (λ e. inl (sym e)) (λ h. absurd (not_past k l h.0)) (far (at k) k (omega (arith, l)))) (order k (at k))
+  core k = ⊎_elim (λ l. far k (at k) l)
+      (λ l. ⊎_elim (λ e. inl (sym e)) (λ h. absurd (not_past k l h.0)) (far (at k) k (omega (arith, l))))
+      (order k (at k))
 
   meant : ℕ → List Run.Note
   meant k = (E (count k)).notes
 
-  within_of : (k : ℕ) → Once (R k) (R (at k)) → IsSuffix (happenings (R k).log) (Run.happenings (meant k)) × (sites (R k).log ≡ site_list (Run.entries (meant k)))
+  within_of : (k : ℕ) → Once (R k) (R (at k)) → IsSuffix (happenings (R k).log) (Run.happenings (meant k))
+      × (sites (R k).log ≡ site_list (Run.entries (meant k)))
   unfolding at count meant
   within_of k (inl e) =
       let w = (way.reaches (count k)).1.noted in
@@ -118,7 +132,8 @@ module _ (R : ℕ → Ran) (E : ℕ → Meant) (once : (k : ℕ) → Once (R k) 
   within_of k (inr h) =
       let w = (way.reaches (count k)).1.noted in
       let s : sites (R (at k)).log ≡ sites h.1.0 ++ sites (R k).log = ap sites h.1.1 ∙ sites-append h.1.0 (R k).log in
-      let l : length (sites h.1.0 ++ sites (R k).log) ≤ count k = subst (λ z. length z ≤ count k) (sym w.entered ∙ s) (way.bounded (count k)) in
+      let l : length (sites h.1.0 ++ sites (R k).log) ≤ count k =
+      subst (λ z. length z ≤ count k) (sym w.entered ∙ s) (way.bounded (count k)) in
       let f : sites h.1.0 ≡ [] = no_front (sites h.1.0) (sites (R k).log) (count k) l refl in (
         (happenings h.1.0, sym w.happened ∙ ap happenings h.1.1 ∙ happenings-append h.1.0 (R k).log),
         sym (ap (λ z. z ++ sites (R k).log) f) ∙ sym s ∙ w.entered,
@@ -136,7 +151,8 @@ module _ (R : ℕ → Ran) (E : ℕ → Meant) (once : (k : ℕ) → Once (R k) 
   bad_end e (waits t) h q = let d : over (waits t) ≡ is_bad = sym h ∙ q in cc
   bad_end e spent h q = let d : unfinished ≡ is_bad = sym h ∙ q in cc
 
-  ends_of : (k : ℕ) (o : Outcome Term) → (R k).end ≡ over o → Once (R k) (R (at k)) → (happenings (R k).log ≡ Run.happenings (meant k)) × ((E (count k)).end ≡ o)
+  ends_of : (k : ℕ) (o : Outcome Term) → (R k).end ≡ over o → Once (R k) (R (at k))
+      → (happenings (R k).log ≡ Run.happenings (meant k)) × ((E (count k)).end ≡ o)
   unfolding at count meant
   ends_of k o q (inl e) =
       let w = (way.reaches (count k)).1 in

@@ -1,8 +1,8 @@
 //! Machines that make steps, whatever their states are: their runs, and what it is to follow a meaning.
 //!
 //! A step goes to another state, ends, notes something or asks the world; `run step k` makes at most k of them from a
-//! state and a list of replies, and gives what was noted, the latest first, and how it ended. So a machine that asks for
-//! one reply and ends with its term is over after one step; without a reply it ends waiting on its request.
+//! state and a list of replies, and gives what was noted, the latest first, and how it ended. So a machine that asks
+//! for one reply and ends with its term is over after one step; without a reply it ends waiting on its request.
 //!
 //! - `Follows`: for each bound on entries some number of steps notes and ends as the meaning does, and each number of
 //!   steps stays within it. `one_direction_suffices` gets this from steps that come to each meaning.

@@ -26,7 +26,8 @@ struct Writing<F: Drop> {
 /// The files of the system. It tells nothing, and counts its faults.
 ///
 /// The file that was loaded last stays open, and so does the one that was written last: a load at the place that was
-/// reached reads on in that file, and what is appended goes to the file that was created, whatever became of their names.
+/// reached reads on in that file, and what is appended goes to the file that was created, whatever became of their
+/// names.
 #[derive(Drop)]
 pub struct RealStore<R: Files + Drop> {
     rt: R,
@@ -126,7 +127,8 @@ fn write_on<R: Files>(
 }
 
 impl<R: Files + Drop> Store for RealStore<R> {
-    ghost told = { λ s. record { files = None; rooms = None; read_faults = s.read_faults; write_faults = s.write_faults } };
+    ghost told = { λ s.
+        record { files = None; rooms = None; read_faults = s.read_faults; write_faults = s.write_faults } };
 
     ghost rooms_with_files = { λ s told. told };
 

@@ -28,7 +28,8 @@ whole_sound bytes t u e =
     record {
       utf8 = u;
       rest = (x.0).1;
-      reads = subst (λ s. ReadsTerm most_nesting (chars bytes) s (x.0).1) f.1 ((reads_sound most_nesting).reads (chars bytes) (x.0).1 (x.0).0 x.1);
+      reads = subst (λ s. ReadsTerm most_nesting (chars bytes) s (x.0).1) f.1
+          ((reads_sound most_nesting).reads (chars bytes) (x.0).1 (x.0).0 x.1);
       ends = f.0;
     }
 
@@ -45,13 +46,15 @@ text_read bytes v h = whole_sound bytes (view v) h.0 h.1
 pub text_only : (bytes : List ℕ) (v : Value) → GivesText bytes (Ok v) → (t : Term) → IsTermText bytes t → view v ≡ t
 text_only bytes v h t k = some_same (view v) t (sym h.1 ∙ whole_complete bytes t k)
 
-pub text_refused : (bytes : List ℕ) → (IsUtf8 bytes → read_whole (chars bytes) ≡ None) → (t : Term) → IsTermText bytes t → ⊥
+pub text_refused : (bytes : List ℕ) → (IsUtf8 bytes → read_whole (chars bytes) ≡ None) → (t : Term)
+    → IsTermText bytes t → ⊥
 text_refused bytes h t k = let e : None ≡ Some t = sym (h k.utf8) ∙ whole_complete bytes t k in cc
 
 pub text_has_one_term : (bytes : List ℕ) (t u : Term) → IsTermText bytes t → IsTermText bytes u → t ≡ u
 text_has_one_term bytes t u h k = some_same t u (sym (whole_complete bytes t h) ∙ whole_complete bytes u k)
 
-pub gives_text : (bytes cs : List ℕ) (r : Result Value Unread) → IsUtf8 bytes → cs ≡ chars bytes → Gives view r (read_whole cs) → GivesText bytes r
+pub gives_text : (bytes cs : List ℕ) (r : Result Value Unread) → IsUtf8 bytes → cs ≡ chars bytes
+    → Gives view r (read_whole cs) → GivesText bytes r
 gives_text bytes cs (Ok v) u e h = (u, ap read_whole (sym e) ∙ h)
 gives_text bytes cs (Err Syntax) u e h = λ k. ap read_whole (sym e) ∙ h
 gives_text bytes cs (Err NoMemory) u e h = tt

@@ -13,7 +13,8 @@ part_consumes = record { shorter = part_shorter }
 
 pushed : (ps : List Part) (p : Part) → AreParts ps → IsTrue (is_part p) → AreParts (ps ++ p ∷ [])
 pushed [] p h k = both_true (is_part p) _ k refl
-pushed (q ∷ ps) p h k = both_true (is_part q) _ (left_true (is_part q) (list_all is_part ps) h) (pushed ps p (right_true (is_part q) (list_all is_part ps) h) k)
+pushed (q ∷ ps) p h k = both_true (is_part q) _ (left_true (is_part q) (list_all is_part ps) h)
+    (pushed ps p (right_true (is_part q) (list_all is_part ps) h) k)
 
 pub part_pushed : (ps new : List Part) (p : Part) → new ≡ ps ++ p ∷ [] → AreParts ps → IsTrue (is_part p) → AreParts new
 part_pushed ps new p e h k = subst AreParts (sym e) (pushed ps p h k)

@@ -30,7 +30,8 @@ module _ (p : List ℕ → Option (Term × List ℕ)) (xs : List Term) (cs : Lis
   pub no_items_no_list : before xs (items_of p cs) ≡ None → before_tail xs (items_and_end p cs) ≡ None
   no_items_no_list = by (items_of p cs)
     where
-      by : (r : Option (List Term × List ℕ)) → before xs r ≡ None → before_tail xs (r >>= λ ts. list_end p ts.1 >>= λ u. Some (list_of ts.0 u.0, u.1)) ≡ None
+      by : (r : Option (List Term × List ℕ)) → before xs r ≡ None
+          → before_tail xs (r >>= λ ts. list_end p ts.1 >>= λ u. Some (list_of ts.0 u.0, u.1)) ≡ None
       by None e = refl
       by (Some found) e = absurd cc
 
@@ -39,12 +40,14 @@ module _ (p : List ℕ → Option (Term × List ℕ)) (xs : List Term) (cs : Lis
       → before_tail ys (list_end p ds) ≡ before_tail xs (items_and_end p cs)
   items_then_end ys ds = by (items_of p cs)
     where
-      ends : (zs : List Term) (r : Option (Term × List ℕ)) → before_tail (xs ++ zs) r ≡ before_tail xs (r >>= λ u. Some (list_of zs u.0, u.1))
+      ends : (zs : List Term) (r : Option (Term × List ℕ))
+          → before_tail (xs ++ zs) r ≡ before_tail xs (r >>= λ u. Some (list_of zs u.0, u.1))
       ends zs None = refl
       ends zs (Some u) = ap (λ t. Some (t, u.1)) (list_of-append xs zs u.0)
 
       by : (r : Option (List Term × List ℕ)) → before xs r ≡ Some (ys, ds)
-          → before_tail ys (list_end p ds) ≡ before_tail xs (r >>= λ ts. list_end p ts.1 >>= λ u. Some (list_of ts.0 u.0, u.1))
+          → before_tail ys (list_end p ds)
+          ≡ before_tail xs (r >>= λ ts. list_end p ts.1 >>= λ u. Some (list_of ts.0 u.0, u.1))
       by None e = absurd cc
       by (Some found) e =
           let same = inside {A = List Term × List ℕ} (ys, ds) (xs ++ found.0, found.1) (sym e) in
@@ -54,12 +57,15 @@ module _ (p : List ℕ → Option (Term × List ℕ)) (xs : List Term) (cs : Lis
           ∙ ends found.0 (list_end p found.1)
 
   -- where a bar stands, the tail and then the bracket
-  pub end_bar : (ds : List ℕ) → mark_at (codes "|") cs ≡ Some ds → before_tail xs (list_end p cs) ≡ (before_tail xs (p ds) >>= bracketed)
+  pub end_bar : (ds : List ℕ) → mark_at (codes "|") cs ≡ Some ds
+      → before_tail xs (list_end p cs) ≡ (before_tail xs (p ds) >>= bracketed)
   unfolding list_end
   end_bar ds e =
-      ap (λ r. before_tail xs (choice r (λ es. p es >>= bracketed) (mark_at (codes "]") cs >>= λ es. Some (T.nil, es)))) e ∙ by (p ds)
+      ap (λ r. before_tail xs (choice r (λ es. p es >>= bracketed) (mark_at (codes "]") cs >>= λ es. Some (T.nil, es))))
+      e ∙ by (p ds)
     where
-      close : (t : Term) (r : Option (List ℕ)) → before_tail xs (r >>= λ es. Some (t, es)) ≡ (r >>= λ es. Some (list_of xs t, es))
+      close : (t : Term) (r : Option (List ℕ))
+          → before_tail xs (r >>= λ es. Some (t, es)) ≡ (r >>= λ es. Some (list_of xs t, es))
       close t None = refl
       close t (Some es) = refl
 
@@ -68,61 +74,76 @@ module _ (p : List ℕ → Option (Term × List ℕ)) (xs : List Term) (cs : Lis
       by (Some t) = close t.0 (mark_at (codes "]") t.1)
 
   -- where none stands, the bracket
-  pub end_bracket : mark_at (codes "|") cs ≡ None → before_tail xs (list_end p cs) ≡ (mark_at (codes "]") cs >>= λ ds. Some (list_of xs T.nil, ds))
+  pub end_bracket : mark_at (codes "|") cs ≡ None
+      → before_tail xs (list_end p cs) ≡ (mark_at (codes "]") cs >>= λ ds. Some (list_of xs T.nil, ds))
   unfolding list_end
   end_bracket e =
-      ap (λ r. before_tail xs (choice r (λ es. p es >>= bracketed) (mark_at (codes "]") cs >>= λ es. Some (T.nil, es)))) e
+      ap (λ r. before_tail xs (choice r (λ es. p es >>= bracketed) (mark_at (codes "]") cs >>= λ es. Some (T.nil, es))))
+      e
       ∙ by (mark_at (codes "]") cs)
     where
-      by : (r : Option (List ℕ)) → before_tail xs (r >>= λ es. Some (T.nil, es)) ≡ (r >>= λ ds. Some (list_of xs T.nil, ds))
+      by : (r : Option (List ℕ))
+          → before_tail xs (r >>= λ es. Some (T.nil, es)) ≡ (r >>= λ ds. Some (list_of xs T.nil, ds))
       by None = refl
       by (Some ds) = refl
 
   -- What ends a list, by what stands there.
 
-  pub end_unclosed : None ≡ mark_at (codes "|") cs → mark_at (codes "]") cs ≡ None → before_tail xs (list_end p cs) ≡ None
+  pub end_unclosed : None ≡ mark_at (codes "|") cs → mark_at (codes "]") cs ≡ None
+      → before_tail xs (list_end p cs) ≡ None
   end_unclosed e f = end_bracket (sym e) ∙ ap (λ r. r >>= λ ds. Some (list_of xs T.nil, ds)) f
 
-  pub end_no_tail : (ds : List ℕ) → Some ds ≡ mark_at (codes "|") cs → before_tail xs (p ds) ≡ None → before_tail xs (list_end p cs) ≡ None
+  pub end_no_tail : (ds : List ℕ) → Some ds ≡ mark_at (codes "|") cs → before_tail xs (p ds) ≡ None
+      → before_tail xs (list_end p cs) ≡ None
   end_no_tail ds e f = end_bar ds (sym e) ∙ ap (λ r. r >>= bracketed) f
 
-  pub end_tail_open : (ds es : List ℕ) (t : Term) → Some ds ≡ mark_at (codes "|") cs → before_tail xs (p ds) ≡ Some (t, es)
+  pub end_tail_open : (ds es : List ℕ) (t : Term) → Some ds ≡ mark_at (codes "|") cs
+      → before_tail xs (p ds) ≡ Some (t, es)
       → mark_at (codes "]") es ≡ None → before_tail xs (list_end p cs) ≡ None
   end_tail_open ds es t e f g = end_bar ds (sym e) ∙ ap (λ r. r >>= bracketed) f ∙ ap (λ r. r >>= λ fs. Some (t, fs)) g
 
-  pub end_proper : (ds : List ℕ) (t : Term) → None ≡ mark_at (codes "|") cs → mark_at (codes "]") cs ≡ Some ds → t ≡ list_of xs T.nil
+  pub end_proper : (ds : List ℕ) (t : Term) → None ≡ mark_at (codes "|") cs → mark_at (codes "]") cs ≡ Some ds
+      → t ≡ list_of xs T.nil
       → before_tail xs (list_end p cs) ≡ Some (t, ds)
   end_proper ds t e f g =
       end_bracket (sym e) ∙ ap (λ r. r >>= λ ds. Some (list_of xs T.nil, ds)) f ∙ ap (λ u. Some (u, ds)) (sym g)
 
-  pub end_with_tail : (ds es fs : List ℕ) (t : Term) → Some ds ≡ mark_at (codes "|") cs → before_tail xs (p ds) ≡ Some (t, es)
+  pub end_with_tail : (ds es fs : List ℕ) (t : Term) → Some ds ≡ mark_at (codes "|") cs
+      → before_tail xs (p ds) ≡ Some (t, es)
       → mark_at (codes "]") es ≡ Some fs → before_tail xs (list_end p cs) ≡ Some (t, fs)
-  end_with_tail ds es fs t e f g = end_bar ds (sym e) ∙ ap (λ r. r >>= bracketed) f ∙ ap (λ r. r >>= λ fs. Some (t, fs)) g
+  end_with_tail ds es fs t e f g =
+      end_bar ds (sym e) ∙ ap (λ r. r >>= bracketed) f ∙ ap (λ r. r >>= λ fs. Some (t, fs)) g
 
   -- A list in a tail: no items, or some.
 
-  pub list_closed : (ds : List ℕ) (t : Term) → Some ds ≡ mark_at (codes "]") cs → t ≡ list_of xs T.nil → before_tail xs (list_by p cs) ≡ Some (t, ds)
+  pub list_closed : (ds : List ℕ) (t : Term) → Some ds ≡ mark_at (codes "]") cs → t ≡ list_of xs T.nil
+      → before_tail xs (list_by p cs) ≡ Some (t, ds)
   unfolding list_by
   list_closed ds t e f =
-      ap (λ r. before_tail xs (choice r (λ es. Some (T.nil, es)) (items_and_end p cs))) (sym e) ∙ ap (λ u. Some (u, ds)) (sym f)
+      ap (λ r. before_tail xs (choice r (λ es. Some (T.nil, es)) (items_and_end p cs))) (sym e)
+      ∙ ap (λ u. Some (u, ds)) (sym f)
 
   pub list_open : None ≡ mark_at (codes "]") cs → before_tail xs (items_and_end p cs) ≡ before_tail xs (list_by p cs)
   unfolding list_by
   list_open e = ap (λ r. before_tail xs (choice r (λ es. Some (T.nil, es)) (items_and_end p cs))) e
 
 -- the first character and the others
-pub first_and_rest : (cs : List ℕ) (c : ℕ) → 1 ≤ length cs → c ≡ get_or cs 0 c → cs ≡ c ∷ take (length cs - 1) (drop 1 cs)
+pub first_and_rest : (cs : List ℕ) (c : ℕ) → 1 ≤ length cs → c ≡ get_or cs 0 c
+    → cs ≡ c ∷ take (length cs - 1) (drop 1 cs)
 first_and_rest [] c h e = absurd (omega arith)
 first_and_rest (x ∷ cs) c h e = let all : take (length (x ∷ cs) - 1) cs ≡ cs = take_all _ cs (omega arith) in cc
 
 -- characters that begin with a bracket are read as a list
-pub bracket_form : (d : ℕ) (p : List ℕ → Option (Term × List ℕ)) (xs : List Term) (c : ℕ) (cs later : List ℕ) → cs ≡ c ∷ later → c ≡ 91
+pub bracket_form : (d : ℕ) (p : List ℕ → Option (Term × List ℕ)) (xs : List Term) (c : ℕ) (cs later : List ℕ)
+    → cs ≡ c ∷ later → c ≡ 91
     → before_tail xs (list_by p later) ≡ before_tail xs (form_by d p cs)
 unfolding form_by
-bracket_form d p xs c cs later e f = ap (λ x. before_tail xs (form_by d p (x ∷ later))) (sym f) ∙ ap (λ ds. before_tail xs (form_by d p ds)) (sym e)
+bracket_form d p xs c cs later e f =
+    ap (λ x. before_tail xs (form_by d p (x ∷ later))) (sym f) ∙ ap (λ ds. before_tail xs (form_by d p ds)) (sym e)
 
 -- nothing is read from no characters
-pub no_form : (d : ℕ) (p : List ℕ → Option (Term × List ℕ)) (xs : List Term) (cs : List ℕ) → length cs < 1 → before_tail xs (form_by d p cs) ≡ None
+pub no_form : (d : ℕ) (p : List ℕ → Option (Term × List ℕ)) (xs : List Term) (cs : List ℕ) → length cs < 1
+    → before_tail xs (form_by d p cs) ≡ None
 unfolding form_by
 no_form d p xs [] h = refl
 no_form d p xs (c ∷ cs) h = absurd (omega arith)

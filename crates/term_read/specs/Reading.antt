@@ -24,7 +24,9 @@ abbrev pub choice : {A : Type 0} → Option (List ℕ) → (List ℕ → Option 
 choice None f other = other
 choice (Some cs) f other = f cs
 
-abbrev pub and_items : {A : Type 0} → A × List ℕ → Option (List ℕ) → (List ℕ → Option (List A × List ℕ)) → Option (List A × List ℕ)
+-- one item, and more where a comma was read
+abbrev pub and_items : {A : Type 0} → A × List ℕ → Option (List ℕ) → (List ℕ → Option (List A × List ℕ))
+    → Option (List A × List ℕ)
 and_items x None next = Some (x.0 ∷ [], x.1)
 and_items x (Some cs) next = next cs >>= λ xs. Some (x.0 ∷ xs.0, xs.1)
 
@@ -33,6 +35,7 @@ abbrev pub items_within : {A : Type 0} → (List ℕ → Option (A × List ℕ))
 items_within p zero cs = None
 items_within p (suc n) cs = p cs >>= λ x. and_items x (mark_at (codes ",") x.1) (items_within p n)
 
+-- items with commas between them, as many as the characters allow
 unfoldable pub items_of : {A : Type 0} → (List ℕ → Option (A × List ℕ)) → List ℕ → Option (List A × List ℕ)
 items_of p cs = items_within p (length cs) cs
 
@@ -47,10 +50,13 @@ before_tail ts None = None
 before_tail ts (Some tail) = Some (list_of ts tail.0, tail.1)
 
 -- items with commas between or none, up to a closing mark
-unfoldable pub row_of : {A : Type 0} → (List ℕ → Option (A × List ℕ)) → (close : List ℕ) → List ℕ → Option (List A × List ℕ)
+unfoldable pub row_of : {A : Type 0} → (List ℕ → Option (A × List ℕ)) → (close : List ℕ) → List ℕ
+    → Option (List A × List ℕ)
 row_of p close cs =
-    choice (mark_at close cs) (λ ds. Some ([], ds)) (items_of p cs >>= λ xs. mark_at close xs.1 >>= λ ds. Some (xs.0, ds))
+    choice (mark_at close cs) (λ ds. Some ([], ds))
+    (items_of p cs >>= λ xs. mark_at close xs.1 >>= λ ds. Some (xs.0, ds))
 
+-- what ends a list: a tail behind a bar, or nothing
 unfoldable pub list_end : (List ℕ → Option (Term × List ℕ)) → List ℕ → Option (Term × List ℕ)
 list_end p cs =
     choice (mark_at (codes "|") cs) (λ ds. p ds >>= λ t. mark_at (codes "]") t.1 >>= λ es. Some (t.0, es))
@@ -64,23 +70,29 @@ items_and_end p cs = items_of p cs >>= λ ts. list_end p ts.1 >>= λ u. Some (li
 unfoldable pub list_by : (List ℕ → Option (Term × List ℕ)) → List ℕ → Option (Term × List ℕ)
 list_by p cs = choice (mark_at (codes "]") cs) (λ ds. Some (T.nil, ds)) (items_and_end p cs)
 
+-- the rest of a tuple
 unfoldable pub tuple_by : (List ℕ → Option (Term × List ℕ)) → List ℕ → Option (Term × List ℕ)
 tuple_by p cs = row_of p (codes "}") cs >>= λ ts. Some (T.tuple (terms ts.0), ts.1)
 
+-- a pair of a map: a key, `=>` and a value
 unfoldable pub pair_by : (List ℕ → Option (Term × List ℕ)) → List ℕ → Option ((Term × Term) × List ℕ)
 pair_by p cs = p cs >>= λ k. mark_at (codes "=>") k.1 >>= λ ds. p ds >>= λ v. Some ((k.0, v.0), v.1)
 
+-- the rest of a map
 unfoldable pub map_by : (List ℕ → Option (Term × List ℕ)) → List ℕ → Option (Term × List ℕ)
 map_by p cs = row_of (pair_by p) (codes "}") cs >>= λ ps. Some (T.map (put_all ps.0 no_pair), ps.1)
 
+-- the rest of a fun term
 unfoldable pub fun_by : (List ℕ → Option (Term × List ℕ)) → List ℕ → Option (Term × List ℕ)
 fun_by p cs =
     fun_head cs >>= λ h. row_of p (codes "]") h.1 >>= λ ts. mark_at (codes ">") ts.1 >>= λ ds.
     Some (T.fun (h.0).home (h.0).site (h.0).arity (terms ts.0), ds)
 
+-- a pid, a reference or a port: its number and `>`
 unfoldable pub marked_by : (ℕ → Term) → List ℕ → Option (Term × List ℕ)
 marked_by f cs = number_in (2 ^ 64) cs >>= λ n. Some (f n.0, n.1)
 
+-- the rest of a raw trace
 unfoldable pub trace_by : List ℕ → Option (Term × List ℕ)
 trace_by cs = class_in cs >>= λ c. Some (T.raw_trace c.0, c.1)
 
@@ -92,14 +104,20 @@ identifier_by cs =
     (choice (behind_mark (codes "Port<") cs) (marked_by T.port)
     (choice (behind_mark (codes "Trace<") cs) trace_by None)))
 
+-- what begins with `#`
 unfoldable pub hash_by : (List ℕ → Option (Term × List ℕ)) → List ℕ → Option (Term × List ℕ)
-hash_by p cs = choice (behind_mark (codes "{") cs) (map_by p) (choice (behind_mark (codes "Fun<") cs) (fun_by p) (identifier_by cs))
+hash_by p cs = choice (behind_mark (codes "{") cs) (map_by p)
+    (choice (behind_mark (codes "Fun<") cs) (fun_by p) (identifier_by cs))
 
+-- the bits of a binary that is written as a row of parts
 unfoldable pub part_row : List ℕ → Option (Term × List ℕ)
-part_row cs = row_of part_at (codes ">>") cs >>= λ ps. if whole_before_last ps.0 then Some (T.bits (bits_in ps.0), ps.1) else None
+part_row cs = row_of part_at (codes ">>") cs >>= λ ps.
+    if whole_before_last ps.0 then Some (T.bits (bits_in ps.0), ps.1) else None
 
+-- the bits of a binary that is written as a string of bytes
 unfoldable pub byte_text : List ℕ → Option (Term × List ℕ)
-byte_text cs = quoted_rest 34 cs >>= λ s. if list_all is_byte s.0 then (mark_at (codes ">>") s.1 >>= λ ds. Some (T.bits (byte_bits s.0), ds)) else None
+byte_text cs = quoted_rest 34 cs >>= λ s.
+    if list_all is_byte s.0 then (mark_at (codes ">>") s.1 >>= λ ds. Some (T.bits (byte_bits s.0), ds)) else None
 
 -- behind `<<`
 unfoldable pub bits_by : List ℕ → Option (Term × List ℕ)
@@ -109,18 +127,24 @@ bits_by cs = choice (behind_mark (codes "\"") (behind_blanks cs)) byte_text (par
 abbrev pub angle_by : List ℕ → Option (Term × List ℕ)
 angle_by cs = behind_mark (codes "<") cs >>= bits_by
 
+-- the rest of a string: the list of its code points
 unfoldable pub string_by : ℕ → List ℕ → Option (Term × List ℕ)
-string_by d cs = quoted_rest 34 cs >>= λ s. if string_fits d s.0 then Some (list_of (map code_point s.0) T.nil, s.1) else None
+string_by d cs = quoted_rest 34 cs >>= λ s.
+    if string_fits d s.0 then Some (list_of (map code_point s.0) T.nil, s.1) else None
 
+-- an atom, or an external fun behind the word `fun`
 abbrev pub of_word : Name × List ℕ → Option (Term × List ℕ)
 of_word w = if same_name (codes "fun") w.0 then extern_rest w.1 else Some (T.atom w.0, w.1)
 
+-- what begins with a word
 unfoldable pub word_by : List ℕ → Option (Term × List ℕ)
 word_by cs = word_front cs >>= of_word
 
+-- a quoted atom
 unfoldable pub quoted_by : List ℕ → Option (Term × List ℕ)
 quoted_by cs = quoted_rest 39 cs >>= λ a. Some (T.atom a.0, a.1)
 
+-- an integer
 unfoldable pub integer_by : List ℕ → Option (Term × List ℕ)
 integer_by cs = integer_front cs >>= λ z. Some (T.int z.0, z.1)
 
@@ -134,6 +158,7 @@ leaf_by d (c ∷ cs) =
     else if is_lower c then word_by (c ∷ cs)
     else integer_by (c ∷ cs)
 
+-- a term by its first character
 unfoldable pub form_by : (d : ℕ) → (List ℕ → Option (Term × List ℕ)) → List ℕ → Option (Term × List ℕ)
 form_by d p [] = None
 form_by d p (c ∷ cs) =
@@ -142,10 +167,12 @@ form_by d p (c ∷ cs) =
     else if c == 35 then hash_by p cs
     else leaf_by d (c ∷ cs)
 
+-- a term that nests at most d deep
 abbrev pub read_by : (d : ℕ) → List ℕ → Option (Term × List ℕ)
 read_by zero cs = None
 read_by (suc d) cs = form_by d (read_by d) (behind_blanks cs)
 
+-- the term, where nothing follows it
 abbrev pub if_ended : Term → List ℕ → Option Term
 if_ended t [] = Some t
 if_ended t (c ∷ cs) = None

@@ -137,10 +137,10 @@ pub(crate) fn part_at(cs: &[char]) -> Result<(Part, &[char]), Unread>
             rest,
         ));
     };
-    sized(number as u8, later)
+    part_sized(number as u8, later)
 }
 
-fn sized(number: u8, cs: &[char]) -> Result<(Part, &[char]), Unread>
+fn part_sized(number: u8, cs: &[char]) -> Result<(Part, &[char]), Unread>
     ensures value { Gives (λ found. (found.0, found.1.now)) result (of_size number (number_at 8 cs.now)) }
     ensures size { IfOk result (λ found. IsTrue (is_part found.0)) }
     ensures fits { IfOk result (λ found. length found.1.now < length cs.now) }

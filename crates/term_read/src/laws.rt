@@ -13,11 +13,12 @@ pub fn text_has_one_term()
     ensures { (bytes : List ℕ) (t u : Plain.Term) → IsTermText bytes t → IsTermText bytes u → t ≡ u }
 {}
 
-/// The printed text of a term is read again, whatever follows it that goes on neither a word nor a number: for terms with
-/// the program's numbers, nested at most 2,100 deep, whose maps have rising keys. So its bytes are a text of the term.
+/// The printed text of a term is read again, whatever follows it that goes on neither a word nor a number: for terms
+/// with the program's numbers, nested at most 2,100 deep, whose maps have rising keys. So its bytes are a text of the
+/// term.
 pub fn printed_terms_are_read()
-    ensures characters { (t : Plain.Term) (r : List ℕ) → depth t ≤ most_nesting → IsTrue (fits t) → IsTrue (maps_rise t) → Ends r
-        → ReadsTerm most_nesting (term_on t r) t r }
+    ensures characters { (t : Plain.Term) (r : List ℕ) → depth t ≤ most_nesting → IsTrue (fits t) → IsTrue (maps_rise t)
+        → Ends r → ReadsTerm most_nesting (term_on t r) t r }
     ensures bytes { (bytes : List ℕ) (t : Plain.Term) → IsUtf8 bytes → chars bytes ≡ printed t
         → depth t ≤ most_nesting → IsTrue (fits t) → IsTrue (maps_rise t) → IsTermText bytes t }
 {}

@@ -3,7 +3,7 @@ ghost use Rattle.std.specs.Prelude.{◌≡◌, ◌+◌, ◌-◌, ◌<◌, ◌≤
 ghost use Rattle.erl_base.specs.Names.{same_name};
 ghost use Rattle.core_chars.specs.Characters.{first_is};
 ghost use Rattle.term_text.specs.Atoms.{is_name_character};
-ghost use Rattle.term_read.specs.Lexemes.{is_blank, behind_blanks, behind_mark, mark_at, run_of, word_front, quoted_rest, no_fun, name_front, name_at, integer_of, digits_front, integer_front, integer_at, number_at};
+ghost use Rattle.term_read.specs.Lexemes.{is_space, behind_blanks, behind_mark, mark_at, run_of, word_front, quoted_rest, no_fun, name_front, name_at, integer_of, digits_front, integer_front, integer_at, number_at};
 ghost use Rattle.term_read.specs.Reading.{Gives};
 
 use crate::unread::Unread;
@@ -17,14 +17,16 @@ use term_text::{is_name_character, is_same};
 /// The greatest magnitude of a negative integer.
 const MOST: u128 = 170141183460469231731687303715884105728;
 
-fn is_blank(c: char) -> bool
-    ensures { result ≡ is_blank c }
+/// A blank, but for comments.
+pub fn is_space(c: char) -> bool
+    ensures { result ≡ is_space c }
 {
     c == ' ' || c == '\t' || c == '\n' || c == '\r'
 }
 
+/// What is left behind blanks and comments.
 #[tactic(auto, unfolding(crate::specs::Lexemes::behind_blanks))]
-pub(crate) fn behind_blanks(cs: &[char]) -> &[char]
+pub fn behind_blanks(cs: &[char]) -> &[char]
     ensures value { result.now ≡ behind_blanks cs.now }
     ensures fits { length result.now ≤ length cs.now }
 {
@@ -35,7 +37,7 @@ pub(crate) fn behind_blanks(cs: &[char]) -> &[char]
             in_comment = *c != '\n';
         } else if *c == '%' {
             in_comment = true;
-        } else if !is_blank(*c) {
+        } else if !is_space(*c) {
             return rest;
         }
         rest = later;
@@ -70,8 +72,8 @@ pub(crate) fn mark_at<'a>(cs: &'a [char], mark: &[u8]) -> Option<&'a [char]>
     behind_mark(behind_blanks(cs), mark)
 }
 
-/// A mark that must stand there.
-pub(crate) fn expect<'a>(cs: &'a [char], mark: &[u8]) -> Result<&'a [char], Unread>
+/// A mark that must stand there, behind blanks.
+pub fn expect<'a>(cs: &'a [char], mark: &[u8]) -> Result<&'a [char], Unread>
     ensures value { Gives (λ rest. rest.now) result (mark_at mark.now cs.now) }
     ensures fits { IfOk result (λ rest. length rest.now + length mark.now ≤ length cs.now) }
 {

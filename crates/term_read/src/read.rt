@@ -64,8 +64,8 @@ fn list_form(cs: &[char], alloc: Global, depth: u32) -> Result<(Term, &[char]), 
     list_from(cs, alloc, depth, List::new(alloc))
 }
 
-/// The rest of a list behind the items that were read: more items, at least one, and what ends it. The items of a list in its
-/// tail are added to the same list, and so on, so that no item is moved.
+/// The rest of a list behind the items that were read: more items, at least one, and what ends it. The items of a list
+/// in its tail are added to the same list, and so on, so that no item is moved.
 #[cycle(read)]
 fn list_from(
     cs: &[char],
@@ -89,7 +89,8 @@ fn list_from(
 fn list_end(cs: &[char], alloc: Global, depth: u32, found: Terms) -> Result<(Term, &[char]), Unread>
     requires some { 0 < length found }
     requires items { AreWellFormed found }
-    ensures value { Gives (λ found. (view found.0, found.1.now)) result (before_tail (map view found) (list_end (read_by depth) cs.now)) }
+    ensures value { Gives (λ found. (view found.0, found.1.now)) result
+        (before_tail (map view found) (list_end (read_by depth) cs.now)) }
     ensures well_formed { IfOk result (λ found. IsWellFormed found.0) }
     ensures fits { IfOk result (λ found. length found.1.now < length cs.now) }
 {
@@ -107,7 +108,8 @@ fn list_end(cs: &[char], alloc: Global, depth: u32, found: Terms) -> Result<(Ter
 fn tail_at(cs: &[char], alloc: Global, depth: u32, found: Terms) -> Result<(Term, &[char]), Unread>
     requires some { 0 < length found }
     requires items { AreWellFormed found }
-    ensures value { Gives (λ found. (view found.0, found.1.now)) result (before_tail (map view found) (read_by depth cs.now)) }
+    ensures value { Gives (λ found. (view found.0, found.1.now)) result
+        (before_tail (map view found) (read_by depth cs.now)) }
     ensures well_formed { IfOk result (λ found. IsWellFormed found.0) }
     ensures fits { IfOk result (λ found. length found.1.now < length cs.now) }
 {
@@ -127,7 +129,8 @@ fn tail_form(
 ) -> Result<(Term, &[char]), Unread>
     requires some { 0 < length found }
     requires items { AreWellFormed found }
-    ensures value { Gives (λ found. (view found.0, found.1.now)) result (before_tail (map view found) (form_by depth (read_by depth) cs.now)) }
+    ensures value { Gives (λ found. (view found.0, found.1.now)) result
+        (before_tail (map view found) (form_by depth (read_by depth) cs.now)) }
     ensures well_formed { IfOk result (λ found. IsWellFormed found.0) }
     ensures fits { IfOk result (λ found. length found.1.now < length cs.now) }
 {
@@ -149,7 +152,8 @@ fn tail_form(
 #[tactic(auto, using(crate::proofs::ItemRows::loop_refused), unfolding(erl_term::specs::WellFormed::maps_rise))]
 fn items(cs: &[char], alloc: Global, depth: u32, found: Terms) -> Result<(Terms, &[char]), Unread>
     requires { AreWellFormed found }
-    ensures value { Gives (λ found. (map view found.0, found.1.now)) result (before (map view found) (items_of (read_by depth) cs.now)) }
+    ensures value { Gives (λ found. (map view found.0, found.1.now)) result
+        (before (map view found) (items_of (read_by depth) cs.now)) }
     ensures well_formed { IfOk result (λ found. AreWellFormed found.0) }
     ensures some { IfOk result (λ found. 0 < length found.0) }
     ensures fits { IfOk result (λ found. length found.1.now < length cs.now) }
@@ -246,7 +250,8 @@ fn map_form(cs: &[char], alloc: Global, depth: u32) -> Result<(Term, &[char]), U
 #[cycle(read)]
 #[tactic(auto, unfolding(crate::specs::Reading::row_of))]
 fn pair_row(cs: &[char], alloc: Global, depth: u32) -> Result<(Pairs, &[char]), Unread>
-    ensures value { Gives (λ found. (map pair_view found.0, found.1.now)) result (row_of (pair_by (read_by depth)) (codes "}") cs.now) }
+    ensures value { Gives (λ found. (map pair_view found.0, found.1.now)) result
+        (row_of (pair_by (read_by depth)) (codes "}") cs.now) }
     ensures well_formed { IfOk result (λ found. PairsWellFormed found.0) }
     ensures fits { IfOk result (λ found. length found.1.now ≤ length cs.now) }
 {
@@ -262,7 +267,8 @@ fn pair_row(cs: &[char], alloc: Global, depth: u32) -> Result<(Pairs, &[char]), 
 #[cycle(read)]
 #[tactic(auto, using(crate::proofs::ItemRows::loop_refused))]
 fn pairs(cs: &[char], alloc: Global, depth: u32) -> Result<(Pairs, &[char]), Unread>
-    ensures value { Gives (λ found. (map pair_view found.0, found.1.now)) result (items_of (pair_by (read_by depth)) cs.now) }
+    ensures value { Gives (λ found. (map pair_view found.0, found.1.now)) result
+        (items_of (pair_by (read_by depth)) cs.now) }
     ensures well_formed { IfOk result (λ found. PairsWellFormed found.0) }
     ensures fits { IfOk result (λ found. length found.1.now < length cs.now) }
 {

@@ -15,7 +15,7 @@ use erl_term::Term;
 use std::alloc::Global;
 
 /// How deep a term may nest in a text.
-const MOST_NESTING: u32 = 2100;
+pub const MOST_NESTING: u32 = 2100;
 
 /// The term that the bytes are a text of. Its place of fault is always 1:1.
 pub fn read_term(alloc: Global, text: &[u8]) -> Result<Term, Fault>

@@ -5,10 +5,12 @@ use Rattle.std.proofs.lemmas.Bool.Decides.{nat_tests}
 use Rattle.term_text.specs.Decimal.{digits_on, decimal_on, integer_on}
 
 last_digit : (k n : ℕ) (r : List ℕ) → n < 10 → digits_on (suc k) n r ≡ (48 + n) ∷ r
-last_digit k n r h = ap (λ b. elim b [ true ↦ (48 + n) ∷ r | false ↦ digits_on k (n / 10) ((48 + n % 10) ∷ r) ]) (lt-ltb n 10 h)
+last_digit k n r h = ap (λ b. elim b [ true ↦ (48 + n) ∷ r | false ↦ digits_on k (n / 10) ((48 + n % 10) ∷ r) ])
+    (lt-ltb n 10 h)
 
 more_digits : (k n : ℕ) (r : List ℕ) → 10 ≤ n → digits_on (suc k) n r ≡ digits_on k (n / 10) ((48 + n % 10) ∷ r)
-more_digits k n r h = ap (λ b. elim b [ true ↦ (48 + n) ∷ r | false ↦ digits_on k (n / 10) ((48 + n % 10) ∷ r) ]) (le-ltb n 10 h)
+more_digits k n r h = ap (λ b. elim b [ true ↦ (48 + n) ∷ r | false ↦ digits_on k (n / 10) ((48 + n % 10) ∷ r) ])
+    (le-ltb n 10 h)
 
 -- a bound above the number says no more
 enough_digits : (j k n : ℕ) (r : List ℕ) → n < j → n < k → digits_on j n r ≡ digits_on k n r
@@ -19,7 +21,8 @@ enough_digits (suc j) (suc k) n r h i =
       | true ↦ λ e. last_digit j n r (ltb-true n 10 e) ∙ sym (last_digit k n r (ltb-true n 10 e))
       | false ↦ λ e.
           let large : 10 ≤ n = ltb-false n 10 e in
-          more_digits j n r large ∙ enough_digits j k (n / 10) ((48 + n % 10) ∷ r) (omega arith) (omega arith) ∙ sym (more_digits k n r large)
+          more_digits j n r large ∙ enough_digits j k (n / 10) ((48 + n % 10) ∷ r) (omega arith) (omega arith)
+          ∙ sym (more_digits k n r large)
     ] refl
 
 pub decimal-small : (n : ℕ) (r : List ℕ) → n < 10 → decimal_on n r ≡ (48 + n) ∷ r
@@ -28,7 +31,8 @@ decimal-small n r h = last_digit n n r h
 
 pub decimal-large : (n : ℕ) (r : List ℕ) → 10 ≤ n → decimal_on n r ≡ decimal_on (n / 10) ((48 + n % 10) ∷ r)
 unfolding decimal_on
-decimal-large n r h = more_digits n n r h ∙ enough_digits n (suc (n / 10)) (n / 10) ((48 + n % 10) ∷ r) (omega arith) (omega arith)
+decimal-large n r h = more_digits n n r h
+    ∙ enough_digits n (suc (n / 10)) (n / 10) ((48 + n % 10) ∷ r) (omega arith) (omega arith)
 
 -- Reading.
 
@@ -44,7 +48,8 @@ reads_digit : (n d : ℕ) (r : List ℕ) → d < 10 → read_number n ((48 + d) 
 reads_digit n d r h =
     let digit : is_digit (48 + d) ≡ true = grind (arith, nat_tests) in
     let value : 10 * n + ((48 + d) - 48) ≡ 10 * n + d = omega arith in
-    ap (λ b. elim b [ true ↦ read_number (10 * n + ((48 + d) - 48)) r | false ↦ (n, (48 + d) ∷ r) ]) digit ∙ ap (λ m. read_number m r) value
+    ap (λ b. elim b [ true ↦ read_number (10 * n + ((48 + d) - 48)) r | false ↦ (n, (48 + d) ∷ r) ]) digit
+    ∙ ap (λ m. read_number m r) value
 
 reads_digits : (k n : ℕ) (r : List ℕ) → n < k → read_number 0 (digits_on k n r) ≡ read_number n r
 reads_digits zero n r h = absurd (omega (arith, h))
@@ -52,7 +57,8 @@ reads_digits (suc k) n r h =
     elim (ltb n 10) as (λ b. ltb n 10 ≡ b → read_number 0 (digits_on (suc k) n r) ≡ read_number n r) [
       | true ↦ λ e.
           let zero_more : 10 * 0 + n ≡ n = omega arith in
-          ap (read_number 0) (last_digit k n r (ltb-true n 10 e)) ∙ reads_digit 0 n r (ltb-true n 10 e) ∙ ap (λ m. read_number m r) zero_more
+          ap (read_number 0) (last_digit k n r (ltb-true n 10 e)) ∙ reads_digit 0 n r (ltb-true n 10 e)
+          ∙ ap (λ m. read_number m r) zero_more
       | false ↦ λ e.
           let large : 10 ≤ n = ltb-false n 10 e in
           let whole : 10 * (n / 10) + n % 10 ≡ n = omega arith in
@@ -66,7 +72,8 @@ reads_decimal n c r h = reads_digits (suc n) n (c ∷ r) (omega arith)
     ∙ ap (λ b. elim b [ true ↦ read_number (10 * n + (c - 48)) r | false ↦ (n, c ∷ r) ]) h
 
 -- a number ends where no digit follows
-pub decimal_unique : (m n c d : ℕ) (r s : List ℕ) → is_digit c ≡ false → is_digit d ≡ false → decimal_on m (c ∷ r) ≡ decimal_on n (d ∷ s) → (m ≡ n) × (c ∷ r ≡ d ∷ s)
+pub decimal_unique : (m n c d : ℕ) (r s : List ℕ) → is_digit c ≡ false → is_digit d ≡ false
+    → decimal_on m (c ∷ r) ≡ decimal_on n (d ∷ s) → (m ≡ n) × (c ∷ r ≡ d ∷ s)
 decimal_unique m n c d r s h i e =
     let same : (m, c ∷ r) ≡ (n, d ∷ s) = sym (reads_decimal m c r h) ∙ ap (read_number 0) e ∙ reads_decimal n d s i in
     (ap (λ p. p.0) same, ap (λ p. p.1) same)
@@ -74,7 +81,8 @@ decimal_unique m n c d r s h i e =
 -- the same of an integer before a closing brace
 unlike : (m n : ℕ) (r s : List ℕ) → decimal_on m (125 ∷ r) ≡ 45 ∷ decimal_on n (125 ∷ s) → ⊥
 unlike m n r s e =
-    let same : (m, 125 ∷ r) ≡ (0, 45 ∷ decimal_on n (125 ∷ s)) = sym (reads_decimal m 125 r refl) ∙ ap (read_number 0) e in
+    let same : (m, 125 ∷ r) ≡ (0, 45 ∷ decimal_on n (125 ∷ s)) =
+    sym (reads_decimal m 125 r refl) ∙ ap (read_number 0) e in
     differs _ _ (ap (λ p. p.1) same)
   where
     differs : (t u : List ℕ) → 125 ∷ t ≡ 45 ∷ u → ⊥

@@ -15,17 +15,21 @@ lengths_differ (a ∷ x) (b ∷ y) n = and_false (eqb a b) (same_name x y) (leng
     and_false false c e = refl
 
 opened : (x y : List ℕ) (i : ℕ) → i < length x → i < length y
-    → same_name (drop i x) (drop i y) ≡ (eqb (get_or x i 0) (get_or y i 0) && same_name (drop (i + 1) x) (drop (i + 1) y))
+    → same_name (drop i x) (drop i y)
+    ≡ (eqb (get_or x i 0) (get_or y i 0) && same_name (drop (i + 1) x) (drop (i + 1) y))
 opened x y i h g = ap₂ same_name (drop_more x i 0 h) (drop_more y i 0 g)
 
 pub one_same : (x y : List ℕ) (i : ℕ) → i < length x → i < length y → get_or x i 0 ≡ get_or y i 0
     → same_name (drop (i + 1) x) (drop (i + 1) y) ≡ same_name (drop i x) (drop i y)
 one_same x y i h g e =
-    sym (opened x y i h g ∙ ap (λ b. b && same_name (drop (i + 1) x) (drop (i + 1) y)) (eq-eqb (get_or x i 0) (get_or y i 0) e))
+    sym (opened x y i h g ∙ ap (λ b. b && same_name (drop (i + 1) x) (drop (i + 1) y))
+    (eq-eqb (get_or x i 0) (get_or y i 0) e))
 
-pub one_differs : (x y : List ℕ) (i : ℕ) → i < length x → i < length y → get_or x i 0 ≢ get_or y i 0 → false ≡ same_name (drop i x) (drop i y)
+pub one_differs : (x y : List ℕ) (i : ℕ) → i < length x → i < length y → get_or x i 0 ≢ get_or y i 0
+    → false ≡ same_name (drop i x) (drop i y)
 one_differs x y i h g n =
-    sym (opened x y i h g ∙ ap (λ b. b && same_name (drop (i + 1) x) (drop (i + 1) y)) (ne_eqb (get_or x i 0) (get_or y i 0) n))
+    sym (opened x y i h g ∙ ap (λ b. b && same_name (drop (i + 1) x) (drop (i + 1) y))
+    (ne_eqb (get_or x i 0) (get_or y i 0) n))
 
 pub all_same : (x y : List ℕ) (i : ℕ) → length x ≡ length y → length x ≤ i → true ≡ same_name (drop i x) (drop i y)
 all_same [] [] zero e h = refl

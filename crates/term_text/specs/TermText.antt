@@ -18,6 +18,7 @@ bits_on first (a ∷ b ∷ c ∷ d ∷ e ∷ f ∷ g ∷ h ∷ bs) r =
     comma first ++ decimal_on (number_from 0 (a ∷ b ∷ c ∷ d ∷ e ∷ f ∷ g ∷ h ∷ [])) (bits_on false bs r)
 bits_on first bs r = comma first ++ decimal_on (number_from 0 bs) (codes ":" ++ decimal_on (length bs) r)
 
+-- the word of a class
 abbrev pub class_text : Class → List ℕ
 class_text error = codes "error"
 class_text exit = codes "exit"
@@ -32,28 +33,31 @@ pub record Texts : Type 0 where
   pub whole : List ℕ → List ℕ
   pub rest : List ℕ → List ℕ
 
-abbrev pub no_list : (List ℕ → List ℕ) → Texts
-no_list text = record { whole = text; rest = λ r. codes "|" ++ text (codes "]" ++ r) }
+-- the texts of a term that is no list
+abbrev pub plain_texts : (List ℕ → List ℕ) → Texts
+plain_texts text = record { whole = text; rest = λ r. codes "|" ++ text (codes "]" ++ r) }
 
 unfoldable mutual
   pub texts : Term → Texts
-  texts (int z) = no_list (integer_on z)
-  texts (atom a) = no_list (λ r. atom_text a ++ r)
+  texts (int z) = plain_texts (integer_on z)
+  texts (atom a) = plain_texts (λ r. atom_text a ++ r)
   texts nil = record { whole = λ r. codes "[]" ++ r; rest = λ r. codes "]" ++ r }
   texts (cons x y) = record {
     whole = λ r. codes "[" ++ (texts x).whole ((texts y).rest r);
     rest = λ r. codes "," ++ (texts x).whole ((texts y).rest r);
   }
-  texts (tuple ts) = no_list (λ r. codes "{" ++ row_on true ts (codes "}" ++ r))
-  texts (map ps) = no_list (λ r. codes "#{" ++ pairs_on true ps (codes "}" ++ r))
-  texts (bits bs) = no_list (λ r. codes "<<" ++ bits_on true bs (codes ">>" ++ r))
-  texts (fun m s a ts) = no_list (λ r. codes "#Fun<" ++ (atom_text m ++ (codes "," ++ decimal_on s (codes "," ++ decimal_on a (codes ",["
+  texts (tuple ts) = plain_texts (λ r. codes "{" ++ row_on true ts (codes "}" ++ r))
+  texts (map ps) = plain_texts (λ r. codes "#{" ++ pairs_on true ps (codes "}" ++ r))
+  texts (bits bs) = plain_texts (λ r. codes "<<" ++ bits_on true bs (codes ">>" ++ r))
+  texts (fun m s a ts) = plain_texts
+      (λ r. codes "#Fun<" ++ (atom_text m ++ (codes "," ++ decimal_on s (codes "," ++ decimal_on a (codes ",["
       ++ row_on true ts (codes "]>" ++ r))))))
-  texts (extern m f a) = no_list (λ r. codes "fun " ++ (atom_text m ++ (codes ":" ++ (atom_text f ++ (codes "/" ++ decimal_on a r)))))
-  texts (pid n) = no_list (marked_on (codes "#Pid<") n)
-  texts (reference n) = no_list (marked_on (codes "#Ref<") n)
-  texts (port n) = no_list (marked_on (codes "#Port<") n)
-  texts (raw_trace c) = no_list (λ r. codes "#Trace<" ++ (class_text c ++ (codes ">" ++ r)))
+  texts (extern m f a) = plain_texts
+      (λ r. codes "fun " ++ (atom_text m ++ (codes ":" ++ (atom_text f ++ (codes "/" ++ decimal_on a r)))))
+  texts (pid n) = plain_texts (marked_on (codes "#Pid<") n)
+  texts (reference n) = plain_texts (marked_on (codes "#Ref<") n)
+  texts (port n) = plain_texts (marked_on (codes "#Port<") n)
+  texts (raw_trace c) = plain_texts (λ r. codes "#Trace<" ++ (class_text c ++ (codes ">" ++ r)))
 
   -- with commas between, and before the first where there is another before it
   pub row_on : Bool → Terms → List ℕ → List ℕ
@@ -64,6 +68,7 @@ unfoldable mutual
   pairs_on first no_pair r = r
   pairs_on first (pair k v ps) r = comma first ++ (texts k).whole (codes "=>" ++ (texts v).whole (pairs_on false ps r))
 
+-- the text of a term, before what follows
 abbrev pub term_on : Term → List ℕ → List ℕ
 term_on t r = (texts t).whole r
 
@@ -71,5 +76,6 @@ term_on t r = (texts t).whole r
 abbrev pub rest_on : Term → List ℕ → List ℕ
 rest_on t r = (texts t).rest r
 
+-- the text of a term
 abbrev pub printed : Term → List ℕ
 printed t = term_on t []

@@ -15,7 +15,8 @@ use erl_term::Bits;
 #[tactic(auto, using(crate::proofs::BitText::full))]
 pub(crate) fn push_bit_string(out: &mut Text, bits: &Bits) -> Result<(), NoMemory>
     requires { IsFull bits.now }
-    ensures { OnOk result (Adds out.old out.new (λ r. codes "<<" ++ bits_on true (bits_view bits.now) (codes ">>" ++ r))) }
+    ensures { OnOk result (Adds out.old out.new (λ r.
+        codes "<<" ++ bits_on true (bits_view bits.now) (codes ">>" ++ r))) }
 {
     push_bytes(out, b"<<")?;
     push_bits(out, bits.bytes.as_slice(), bits.length)?;
@@ -43,7 +44,8 @@ fn push_bits(out: &mut Text, bytes: &[u8], count: u64) -> Result<(), NoMemory>
 fn push_part(out: &mut Text, first: bool, byte: u8, count: u8) -> Result<(), NoMemory>
     requires some { 0 < count }
     requires few { count < 8 }
-    ensures { OnOk result (Adds out.old out.new (λ r. comma first ++ decimal_on (byte / 2 ^ (8 - count)) (codes ":" ++ decimal_on count r))) }
+    ensures { OnOk result (Adds out.old out.new (λ r. comma first
+        ++ decimal_on (byte / 2 ^ (8 - count)) (codes ":" ++ decimal_on count r))) }
 {
     push_comma(out, first)?;
     put_number(out, u128::from(byte >> (8 - count)))?;

@@ -2,8 +2,8 @@
 //!
 //! A list of 1 and of the string `a`, with a map behind the bar, is printed as `[1,[97]|#{}]`.
 //!
-//! Memory may be refused at any time: bodies that always answer `NoMemory` meet the contracts, and the tests of `term_read` run
-//! each call with ample memory.
+//! Sound, since a text is one definition on the plain term, and each call adds to its output what that definition
+//! says. Strings are printed as the lists that they are, and binaries by their bytes.
 #![tactic(auto)]
 
 mod atoms;

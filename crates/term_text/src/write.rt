@@ -119,7 +119,8 @@ fn push_pairs(pairs: &[Pair], alloc: Global, out: &mut Text) -> Result<(), NoMem
 #[tactic(auto, unfolding(crate::specs::TermText::texts))]
 fn push_pair(pair: &Pair, alloc: Global, out: &mut Text) -> Result<(), NoMemory>
     requires { IsTrue (pair_normal pair.now) }
-    ensures { OnOk result (Adds out.old out.new (λ r. term_on (view pair.now.key) (codes "=>" ++ term_on (view pair.now.value) r))) }
+    ensures { OnOk result (Adds out.old out.new (λ r.
+        term_on (view pair.now.key) (codes "=>" ++ term_on (view pair.now.value) r))) }
 {
     push_term(&pair.key, alloc, out)?;
     push_bytes(out, b"=>")?;
@@ -142,7 +143,8 @@ fn push_marked(out: &mut Text, mark: &[u8], number: u64) -> Result<(), NoMemory>
 }
 
 fn push_class(out: &mut Text, class: Class) -> Result<(), NoMemory>
-    ensures { OnOk result (Adds out.old out.new (λ r. codes "#Trace<" ++ (class_text (class_view class) ++ (codes ">" ++ r)))) }
+    ensures { OnOk result (Adds out.old out.new (λ r.
+        codes "#Trace<" ++ (class_text (class_view class) ++ (codes ">" ++ r)))) }
 {
     match class {
         Class::Error => push_bytes(out, b"#Trace<error>"),
@@ -160,7 +162,8 @@ fn push_fun_head(
     arity: u32,
 ) -> Result<(), NoMemory>
     ensures { OnOk result (Adds out.old out.new (λ r. codes "#Fun<"
-        ++ (atom_text home.now ++ (codes "," ++ decimal_on site.0 (codes "," ++ decimal_on arity (codes ",[" ++ r)))))) }
+        ++ (atom_text home.now ++ (codes "," ++ decimal_on site.0 (codes ","
+        ++ decimal_on arity (codes ",[" ++ r)))))) }
 {
     push_bytes(out, b"#Fun<")?;
     put_atom(alloc, out, home)?;

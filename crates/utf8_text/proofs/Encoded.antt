@@ -29,11 +29,13 @@ two c l h = passed (ltb c 128) _ _ (not_below c 128 l) ∙ taken (ltb c 2048) _ 
 
 three : (c : ℕ) → 2048 ≤ c → c < 65536 → encode c ≡ (224 + c / 4096) ∷ next (c / 64) ∷ next c ∷ []
 unfolding encode
-three c l h = passed (ltb c 128) _ _ (not_below c 128 (omega arith)) ∙ passed (ltb c 2048) _ _ (not_below c 2048 l) ∙ taken (ltb c 65536) _ _ (below c 65536 h)
+three c l h = passed (ltb c 128) _ _ (not_below c 128 (omega arith)) ∙ passed (ltb c 2048) _ _ (not_below c 2048 l)
+    ∙ taken (ltb c 65536) _ _ (below c 65536 h)
 
 four : (c : ℕ) → 65536 ≤ c → encode c ≡ (240 + c / 262144) ∷ next (c / 4096) ∷ next (c / 64) ∷ next c ∷ []
 unfolding encode
-four c l = passed (ltb c 128) _ _ (not_below c 128 (omega arith)) ∙ passed (ltb c 2048) _ _ (not_below c 2048 (omega arith)) ∙ passed (ltb c 65536) _ _ (not_below c 65536 l)
+four c l = passed (ltb c 128) _ _ (not_below c 128 (omega arith))
+    ∙ passed (ltb c 2048) _ _ (not_below c 2048 (omega arith)) ∙ passed (ltb c 65536) _ _ (not_below c 65536 l)
 
 -- y goes on a character
 abbrev pub Follows : ℕ → Type 0
@@ -96,7 +98,8 @@ text_of_two x y l h f =
     let c : ℕ = (x - 192) * 64 + (y - 128) in
     let p : 192 + c / 64 ≡ x = omega arith in
     let q : next c ≡ y = omega arith in
-    subst IsUtf8 (two c (omega arith) (omega arith) ∙ ap (λ a. a ∷ next c ∷ []) p ∙ ap (λ b. x ∷ b ∷ []) q) (IsUtf8-encode c (low_scalar c (omega arith)))
+    subst IsUtf8 (two c (omega arith) (omega arith) ∙ ap (λ a. a ∷ next c ∷ []) p ∙ ap (λ b. x ∷ b ∷ []) q)
+    (IsUtf8-encode c (low_scalar c (omega arith)))
 
 high_scalar : (c : ℕ) → 57344 ≤ c → c < 1114112 → scalar c ≡ true
 high_scalar c l h = grind (arith, nat_tests)
@@ -108,10 +111,13 @@ split x n A f g h = elim (cases_lt x n) as (λ _. A) [
   | inr b ↦ elim (cases_lt n x) as (λ _. A) [ inl c ↦ h c | inr d ↦ g (omega arith) ]
 ]
 
-gap_three : (x y z c : ℕ) → 224 ≤ x → x < 240 → Follows y → (x ≡ 237 → y < 160) → Follows z → c ≡ (x - 224) * 4096 + (y - 128) * 64 + (z - 128) → 55296 ≤ c → 57344 ≤ c
-gap_three x y z c l h u low f e a = split x 237 (57344 ≤ c) (λ b. absurd (omega arith)) (λ b. absurd (omega (arith, low b))) (λ b. omega arith)
+gap_three : (x y z c : ℕ) → 224 ≤ x → x < 240 → Follows y → (x ≡ 237 → y < 160) → Follows z
+    → c ≡ (x - 224) * 4096 + (y - 128) * 64 + (z - 128) → 55296 ≤ c → 57344 ≤ c
+gap_three x y z c l h u low f e a =
+    split x 237 (57344 ≤ c) (λ b. absurd (omega arith)) (λ b. absurd (omega (arith, low b))) (λ b. omega arith)
 
-scalar_three : (x y z c : ℕ) → 224 ≤ x → x < 240 → Second x y → Follows z → c ≡ (x - 224) * 4096 + (y - 128) * 64 + (z - 128) → scalar c ≡ true
+scalar_three : (x y z c : ℕ) → 224 ≤ x → x < 240 → Second x y → Follows z
+    → c ≡ (x - 224) * 4096 + (y - 128) * 64 + (z - 128) → scalar c ≡ true
 scalar_three x y z c l h s f e =
     let u : Follows y = s.follows in
     elim (cases_lt c 55296) [
@@ -119,14 +125,20 @@ scalar_three x y z c l h s f e =
       | inr a ↦ high_scalar c (gap_three x y z c l h s.follows s.low f e a) (omega arith)
     ]
 
-least_three : (x y z c : ℕ) → 224 ≤ x → (x ≡ 224 → 160 ≤ y) → c ≡ (x - 224) * 4096 + (y - 128) * 64 + (z - 128) → 2048 ≤ c
-least_three x y z c l long e = split x 224 (2048 ≤ c) (λ b. absurd (omega arith)) (λ b. omega (arith, long b)) (λ b. omega arith)
+least_three : (x y z c : ℕ) → 224 ≤ x → (x ≡ 224 → 160 ≤ y)
+    → c ≡ (x - 224) * 4096 + (y - 128) * 64 + (z - 128) → 2048 ≤ c
+least_three x y z c l long e =
+    split x 224 (2048 ≤ c) (λ b. absurd (omega arith)) (λ b. omega (arith, long b)) (λ b. omega arith)
 
-least_four : (x y z w c : ℕ) → 240 ≤ x → (x ≡ 240 → 144 ≤ y) → c ≡ (x - 240) * 262144 + (y - 128) * 4096 + (z - 128) * 64 + (w - 128) → 65536 ≤ c
-least_four x y z w c l high e = split x 240 (65536 ≤ c) (λ b. absurd (omega arith)) (λ b. omega (arith, high b)) (λ b. omega arith)
+least_four : (x y z w c : ℕ) → 240 ≤ x → (x ≡ 240 → 144 ≤ y)
+    → c ≡ (x - 240) * 262144 + (y - 128) * 4096 + (z - 128) * 64 + (w - 128) → 65536 ≤ c
+least_four x y z w c l high e =
+    split x 240 (65536 ≤ c) (λ b. absurd (omega arith)) (λ b. omega (arith, high b)) (λ b. omega arith)
 
-most_four : (x y z w c : ℕ) → x ≤ 244 → Follows y → Follows z → Follows w → (x ≡ 244 → y < 144) → c ≡ (x - 240) * 262144 + (y - 128) * 4096 + (z - 128) * 64 + (w - 128) → c < 1114112
-most_four x y z w c h u f g last e = split x 244 (c < 1114112) (λ b. omega arith) (λ b. omega (arith, last b)) (λ b. absurd (omega arith))
+most_four : (x y z w c : ℕ) → x ≤ 244 → Follows y → Follows z → Follows w → (x ≡ 244 → y < 144)
+    → c ≡ (x - 240) * 262144 + (y - 128) * 4096 + (z - 128) * 64 + (w - 128) → c < 1114112
+most_four x y z w c h u f g last e =
+    split x 244 (c < 1114112) (λ b. omega arith) (λ b. omega (arith, last b)) (λ b. absurd (omega arith))
 
 pub text_of_three : (x y z : ℕ) → 224 ≤ x → x < 240 → Second x y → Follows z → IsUtf8 (x ∷ y ∷ z ∷ [])
 text_of_three x y z l h s f =
@@ -135,7 +147,8 @@ text_of_three x y z l h s f =
     let p : 224 + c / 4096 ≡ x = omega arith in
     let q : next (c / 64) ≡ y = omega arith in
     let r : next c ≡ z = omega arith in
-    subst IsUtf8 (three c (least_three x y z c l s.long refl) (omega arith) ∙ ap (λ a. a ∷ next (c / 64) ∷ next c ∷ []) p ∙ ap (λ b. x ∷ b ∷ next c ∷ []) q ∙ ap (λ d. x ∷ y ∷ d ∷ []) r)
+    subst IsUtf8 (three c (least_three x y z c l s.long refl) (omega arith)
+    ∙ ap (λ a. a ∷ next (c / 64) ∷ next c ∷ []) p ∙ ap (λ b. x ∷ b ∷ next c ∷ []) q ∙ ap (λ d. x ∷ y ∷ d ∷ []) r)
     (IsUtf8-encode c (scalar_three x y z c l h s f refl))
 
 pub text_of_four : (x y z w : ℕ) → 240 ≤ x → x ≤ 244 → Second x y → Follows z → Follows w → IsUtf8 (x ∷ y ∷ z ∷ w ∷ [])
@@ -148,7 +161,8 @@ text_of_four x y z w l h s f g =
     let e : c / 64 ≡ (x - 240) * 4096 + (y - 128) * 64 + (z - 128) = omega arith in
     let r : next (c / 64) ≡ z = subst (λ (m : ℕ). next m ≡ z) (sym e) (omega arith) in
     let t : next c ≡ w = omega arith in
-    subst IsUtf8 (four c least ∙ ap (λ a. a ∷ next (c / 4096) ∷ next (c / 64) ∷ next c ∷ []) p ∙ ap (λ b. x ∷ b ∷ next (c / 64) ∷ next c ∷ []) q
+    subst IsUtf8 (four c least ∙ ap (λ a. a ∷ next (c / 4096) ∷ next (c / 64) ∷ next c ∷ []) p
+    ∙ ap (λ b. x ∷ b ∷ next (c / 64) ∷ next c ∷ []) q
     ∙ ap (λ d. x ∷ y ∷ d ∷ next c ∷ []) r ∙ ap (λ d. x ∷ y ∷ z ∷ d ∷ []) t)
     (IsUtf8-encode c (high_scalar c (omega arith) (most_four x y z w c h u f g s.last refl)))
 
@@ -174,10 +188,12 @@ most_second x y s = grind (arith, nat_tests, s.follows, s.low, s.last)
 pub second_in : (x y : ℕ) → Second x y → is_in_range (second_byte_min x) (second_byte_max x) y ≡ true
 second_in x y s = in_range (second_byte_min x) (second_byte_max x) y (least_second x y s) (most_second x y s)
 
-least_fact : (x : ℕ) → (128 ≤ second_byte_min x) × (x ≡ 224 → second_byte_min x ≡ 160) × (x ≡ 240 → second_byte_min x ≡ 144)
+least_fact : (x : ℕ) → (128 ≤ second_byte_min x) × (x ≡ 224 → second_byte_min x ≡ 160)
+    × (x ≡ 240 → second_byte_min x ≡ 144)
 least_fact x = (grind (arith, nat_tests), λ e. grind (arith, nat_tests), λ e. grind (arith, nat_tests))
 
-most_fact : (x : ℕ) → (second_byte_max x < 192) × (x ≡ 237 → second_byte_max x ≡ 159) × (x ≡ 244 → second_byte_max x ≡ 143)
+most_fact : (x : ℕ) → (second_byte_max x < 192) × (x ≡ 237 → second_byte_max x ≡ 159)
+    × (x ≡ 244 → second_byte_max x ≡ 143)
 most_fact x = (grind (arith, nat_tests), λ e. grind (arith, nat_tests), λ e. grind (arith, nat_tests))
 
 pub second_fact : (x y : ℕ) → is_in_range (second_byte_min x) (second_byte_max x) y ≡ true → Second x y
@@ -195,4 +211,5 @@ second_fact x y e =
 
 -- the least second byte may stand second
 pub second_least : (x : ℕ) → Second x (second_byte_min x)
-second_least x = second_fact x (second_byte_min x) (in_range (second_byte_min x) (second_byte_max x) (second_byte_min x) (omega arith) (grind (arith, nat_tests)))
+second_least x = second_fact x (second_byte_min x)
+    (in_range (second_byte_min x) (second_byte_max x) (second_byte_min x) (omega arith) (grind (arith, nat_tests)))

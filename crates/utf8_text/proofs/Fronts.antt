@@ -20,9 +20,11 @@ pub text_behind : (a b : List ℕ) → IsUtf8 a → IsUtf8 (a ++ b) → IsUtf8 b
 text_behind a b u v =
     subst IsUtf8 (drop_at a b (length a) refl)
     (IsUtf8-drop (a ++ b) (length a) v
-    (IsCharBoundary-from_take (a ++ b) (length a) v (omega (arith, length-append a b)) (subst IsUtf8 (sym (take_at a b (length a) refl)) u)))
+    (IsCharBoundary-from_take (a ++ b) (length a) v (omega (arith, length-append a b))
+    (subst IsUtf8 (sym (take_at a b (length a) refl)) u)))
 
-chosen_front : (bs : List ℕ) (n : ℕ) (b : Bool) → is_utf8 (take (suc n) bs) ≡ b → IsUtf8 (take (valid_len_up_to bs n) bs) → IsUtf8 (take (if b then suc n else valid_len_up_to bs n) bs)
+chosen_front : (bs : List ℕ) (n : ℕ) (b : Bool) → is_utf8 (take (suc n) bs) ≡ b
+    → IsUtf8 (take (valid_len_up_to bs n) bs) → IsUtf8 (take (if b then suc n else valid_len_up_to bs n) bs)
 chosen_front bs n true e u = IsUtf8-from_is_utf8 (take (suc n) bs) e
 chosen_front bs n false e u = u
 
@@ -34,12 +36,14 @@ pub front : (bs : List ℕ) → IsUtf8 (take (utf8_valid_len bs) bs)
 unfolding utf8_valid_len
 front bs = front_up_to bs (length bs)
 
-chosen_longest : (bs : List ℕ) (n m : ℕ) (b : Bool) → is_utf8 (take (suc n) bs) ≡ b → (if b then suc n else valid_len_up_to bs n) < m → m ≤ suc n → IsUtf8 (take m bs)
+chosen_longest : (bs : List ℕ) (n m : ℕ) (b : Bool) → is_utf8 (take (suc n) bs) ≡ b
+    → (if b then suc n else valid_len_up_to bs n) < m → m ≤ suc n → IsUtf8 (take m bs)
     → (valid_len_up_to bs n < m → m ≤ n → IsUtf8 (take m bs) → ⊥) → ⊥
 chosen_longest bs n m true e l h u before = omega arith
 chosen_longest bs n m false e l h u before = elim (cases_lt n m) as (λ _. ⊥) [
   | inl a ↦ let whole : m ≡ suc n = omega arith in
-      let yes : is_utf8 (take (suc n) bs) ≡ true = is_utf8-from_IsUtf8 (take (suc n) bs) (subst (λ k. IsUtf8 (take k bs)) whole u) in cc
+      let yes : is_utf8 (take (suc n) bs) ≡ true =
+      is_utf8-from_IsUtf8 (take (suc n) bs) (subst (λ k. IsUtf8 (take k bs)) whole u) in cc
   | inr b ↦ before l b u
 ]
 
@@ -53,23 +57,28 @@ within bs m l h u = longest_up_to bs (length bs) m l h u
 
 pub longest : (bs : List ℕ) (m : ℕ) → utf8_valid_len bs < length bs → utf8_valid_len bs < m → IsUtf8 (take m bs) → ⊥
 longest bs m s l u = elim (cases_lt (length bs) m) as (λ _. ⊥) [
-  | inl a ↦ within bs (length bs) s (omega arith) (subst IsUtf8 (take_all m bs (omega arith) ∙ sym (take_all (length bs) bs (omega arith))) u)
+  | inl a ↦ within bs (length bs) s (omega arith)
+      (subst IsUtf8 (take_all m bs (omega arith) ∙ sym (take_all (length bs) bs (omega arith))) u)
   | inr b ↦ within bs m l b u
 ]
 
 take_past : (a b : List ℕ) (m : ℕ) → length a ≤ m → take m (a ++ b) ≡ a ++ take (m - length a) b
-take_past a b m h = ap (λ n. take n (a ++ b)) (let e : m ≡ length a + (m - length a) = omega arith in e) ∙ take-append-add a b (m - length a)
+take_past a b m h = ap (λ n. take n (a ++ b)) (let e : m ≡ length a + (m - length a) = omega arith in e)
+    ∙ take-append-add a b (m - length a)
 
 -- behind a text the longest front goes on with that of the rest
 pub after_text : (a b : List ℕ) → IsUtf8 a → utf8_valid_len (a ++ b) ≡ length a + utf8_valid_len b
-after_text a b u = elim (cases_lt (utf8_valid_len b) (length b)) as (λ _. utf8_valid_len (a ++ b) ≡ length a + utf8_valid_len b) [
-  | inl s ↦ utf8_valid_len-IsValidUpTo (a ++ b) (length a + utf8_valid_len b) (record {
-    short = omega (arith, length-append a b);
-    front = subst IsUtf8 (sym (take-append-add a b (utf8_valid_len b))) (IsUtf8-append a (take (utf8_valid_len b) b) u (front b));
-    longest = λ m l v. longest b (m - length a) s (omega arith) (text_behind a (take (m - length a) b) u (subst IsUtf8 (take_past a b m (omega arith)) v));
-  })
-  | inr s ↦
-      let all : take (utf8_valid_len b) b ≡ b = take_all (utf8_valid_len b) b s in
-      utf8_valid_len-IsUtf8 (a ++ b) (IsUtf8-append a b u (subst IsUtf8 all (front b))) ∙ length-append a b
-      ∙ ap (λ n. length a + n) (let e : length b ≡ utf8_valid_len b = omega (arith, utf8_valid_len_le b) in e)
-]
+after_text a b u = elim (cases_lt (utf8_valid_len b) (length b)) as (λ _. utf8_valid_len (a ++ b)
+    ≡ length a + utf8_valid_len b) [
+      | inl s ↦ utf8_valid_len-IsValidUpTo (a ++ b) (length a + utf8_valid_len b) (record {
+        short = omega (arith, length-append a b);
+        front = subst IsUtf8 (sym (take-append-add a b (utf8_valid_len b)))
+            (IsUtf8-append a (take (utf8_valid_len b) b) u (front b));
+        longest = λ m l v. longest b (m - length a) s (omega arith)
+            (text_behind a (take (m - length a) b) u (subst IsUtf8 (take_past a b m (omega arith)) v));
+      })
+      | inr s ↦
+          let all : take (utf8_valid_len b) b ≡ b = take_all (utf8_valid_len b) b s in
+          utf8_valid_len-IsUtf8 (a ++ b) (IsUtf8-append a b u (subst IsUtf8 all (front b))) ∙ length-append a b
+          ∙ ap (λ n. length a + n) (let e : length b ≡ utf8_valid_len b = omega (arith, utf8_valid_len_le b) in e)
+    ]

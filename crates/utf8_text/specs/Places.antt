@@ -3,6 +3,7 @@ use Rattle.std.specs.Prelude.{ℕ, ◌+◌, ◌==◌, List, [], ◌∷◌, if◌
 use Rattle.std.specs.Char.{len_utf8}
 use Rattle.erl_base.specs.declared.ids.Place.{Place}
 
+-- where a text begins
 abbrev pub start : Place
 start = record { line = 1; column = 1 }
 

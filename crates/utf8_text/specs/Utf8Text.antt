@@ -16,6 +16,7 @@ BeginsText bytes = (more : List ℕ) × IsUtf8 (bytes ++ more)
 abbrev pub text_end : List ℕ → Place
 text_end bytes = place_after (chars (take (utf8_valid_len bytes) bytes)) start
 
+-- the refusal of bytes that begin no text
 abbrev pub not_utf8 : List ℕ → Refusal
 not_utf8 bytes = record { kind = NotUtf8; place = text_end bytes }
 

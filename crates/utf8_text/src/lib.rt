@@ -1,15 +1,12 @@
 //! UTF-8 text that comes in pieces: its characters, their places, and where bytes stop being text.
 //!
-//! From `é`, a line end and `x`, cut anywhere, come three characters; `x` stands at 2:1 and at byte 3. After the bytes `X\n\xe2(`
-//! the text is refused at 2:1, at once and whatever follows, for no character begins so.
+//! From `é`, a line end and `x`, cut anywhere, come three characters; `x` stands at 2:1 and at byte 3. After the bytes
+//! `X\n\xe2(` the text is refused at 2:1, at once and whatever follows, for no character begins so.
 //!
-//! `feed` keeps the bytes and checks each piece from the last whole character on, so a byte is looked at at most four times
-//! there. `finish` checks and decodes them once more. It takes the bytes, and then four bytes a character.
+//! `feed` keeps the bytes and checks each piece from the last whole character on, so a byte is looked at at most four
+//! times there. `finish` checks and decodes them once more. It takes the bytes, and then four bytes a character.
 //!
 //! The catch: a character that is cut by the end of a piece is no fault until the text ends there.
-//!
-//! What the contracts leave open is want of memory alone: `feed`, `finish` and `characters` may answer it at any time. The
-//! tests call each with ample memory.
 #![tactic(auto)]
 
 mod pieces;

@@ -117,8 +117,8 @@ impl Pieces {
         }
     }
 
-    /// Takes the next piece of the text. `NotUtf8` exactly where the bytes begin no text, with the place just after their
-    /// longest front that is one, and again after it; want of memory leaves all as it was.
+    /// Takes the next piece of the text. `NotUtf8` exactly where the bytes begin no text, with the place just after
+    /// their longest front that is one, and again after it; want of memory leaves all as it was.
     pub fn feed(&mut self, piece: &[u8]) -> Result<(), Fault>
         ensures ok { OnOk result ((self.new ≡ self.old ++ piece.now) × BeginsText self.new) }
         ensures refused { IfErr result (λ fault. RefusesStart (self.old ++ piece.now) fault) }
@@ -169,6 +169,3 @@ pub fn characters(alloc: Global, pieces: &[&[u8]]) -> Result<Vec<char>, Fault>
     }
     text.finish(alloc)
 }
-
-#[cfg(test)]
-mod tests;

@@ -4,7 +4,8 @@ ghost use Rattle.utf8_text.specs.Places.{past, place_after, byte_len};
 
 use erl_base::Place;
 
-/// The place after a character that stands at `place`. A line end, LF alone, begins the next line; columns count characters.
+/// The place after a character that stands at `place`. A line end, LF alone, begins the next line; columns count
+/// characters.
 pub fn past(c: char, place: Place) -> Place
     requires line { place.line < 2 ^ 63 }
     requires column { place.column < 2 ^ 63 }

@@ -23,13 +23,15 @@ asks_none q s e = ap (λ ts. ask_from q ts s) e
 -- the messages that come rise from the next serial on
 numbered_rise : (n : ℕ) (ts : List Term) → RiseFrom n (numbered n ts) (n + length ts)
 numbered_rise n [] = omega arith
-numbered_rise n (t ∷ ts) = (omega arith, subst (RiseFrom (n + 1) (numbered (n + 1) ts)) (omega arith) (numbered_rise (n + 1) ts))
+numbered_rise n (t ∷ ts) =
+    (omega arith, subst (RiseFrom (n + 1) (numbered (n + 1) ts)) (omega arith) (numbered_rise (n + 1) ts))
 
 rise_weaker : (n k : ℕ) (ms : List Message) (next : ℕ) → n ≤ k → RiseFrom k ms next → RiseFrom n ms next
 rise_weaker n k [] next h r = omega (arith, r)
 rise_weaker n k (m ∷ ms) next h r = (omega (arith, r.0), r.1)
 
-joined_rise : (n : ℕ) (ms : List Message) (next : ℕ) (ts : List Term) → RiseFrom n ms next → RiseFrom n (ms ++ numbered next ts) (next + length ts)
+joined_rise : (n : ℕ) (ms : List Message) (next : ℕ) (ts : List Term) → RiseFrom n ms next
+    → RiseFrom n (ms ++ numbered next ts) (next + length ts)
 joined_rise n [] next ts r = rise_weaker n next (numbered next ts) (next + length ts) r (numbered_rise next ts)
 joined_rise n (m ∷ ms) next ts r = (r.0, joined_rise (m.serial + 1) ms next ts r.1)
 
@@ -49,9 +51,11 @@ first_rise ts = subst (RiseFrom 0 (numbered 0 ts)) (omega arith) (numbered_rise 
 pub without_rise : (k n : ℕ) (ms : List Message) (next : ℕ) → RiseFrom n ms next → RiseFrom n (without k ms) next
 without_rise k n [] next r = r
 without_rise k n (m ∷ ms) next r =
-    by (eqb k m.serial) (rise_weaker n (m.serial + 1) ms next (omega (arith, r.0)) r.1) (r.0, without_rise k (m.serial + 1) ms next r.1)
+    by (eqb k m.serial) (rise_weaker n (m.serial + 1) ms next (omega (arith, r.0)) r.1)
+    (r.0, without_rise k (m.serial + 1) ms next r.1)
   where
-    by : (b : Bool) → RiseFrom n ms next → RiseFrom n (m ∷ without k ms) next → RiseFrom n (if b then ms else m ∷ without k ms) next
+    by : (b : Bool) → RiseFrom n ms next → RiseFrom n (m ∷ without k ms) next
+        → RiseFrom n (if b then ms else m ∷ without k ms) next
     by true g h = g
     by false g h = h
 

@@ -14,7 +14,8 @@ module _ {A : Type 0} (pick : Term → Tried A) where
   abbrev behind : Message → State → State
   behind m s = record s { notes = passing pick (m ∷ []) s.notes }
 
-  one_passed : (m : Message) (rest : M A) (s : State) → (pick m.term).body ≡ None → try_one pick m (pick m.term) rest s ≡ rest (behind m s)
+  one_passed : (m : Message) (rest : M A) (s : State) → (pick m.term).body ≡ None
+      → try_one pick m (pick m.term) rest s ≡ rest (behind m s)
   one_passed m rest s e = ap (λ b. cutting (pick m.term).cuts (taking m b rest) s) e
 
   pub passed_over : (ms : List Message) (rest : M A) (s : State) → AllRejected pick ms
@@ -24,9 +25,11 @@ module _ {A : Type 0} (pick : Term → Tried A) where
       one_passed m (try_each pick ms rest) s (All-head (λ m. (pick m.term).body ≡ None) m ms h)
       ∙ passed_over ms rest (behind m s) (All-tail (λ m. (pick m.term).body ≡ None) m ms h)
 
-  pub taken_behind : (passed later : List Message) (m : Message) (body rest : M A) (s : State) → AllRejected pick passed → (pick m.term).body ≡ Some body
+  pub taken_behind : (passed later : List Message) (m : Message) (body rest : M A) (s : State) → AllRejected pick passed
+      → (pick m.term).body ≡ Some body
       → try_each pick (passed ++ m ∷ later) rest s ≡ body (taking_behind pick passed m s)
-  taken_behind [] later m body rest s h e = ap (λ b. cutting (pick m.term).cuts (taking m b (try_each pick later rest)) s) e
+  taken_behind [] later m body rest s h e =
+      ap (λ b. cutting (pick m.term).cuts (taking m b (try_each pick later rest)) s) e
   taken_behind (p ∷ ps) later m body rest s h e =
       one_passed p (try_each pick (ps ++ m ∷ later) rest) s (All-head (λ m. (pick m.term).body ≡ None) p ps h)
       ∙ taken_behind ps later m body rest (behind p s) (All-tail (λ m. (pick m.term).body ≡ None) p ps h) e
@@ -42,13 +45,15 @@ looks_for_more pick timeout late s h = passed_over pick s.mailbox (λ u. looking
 -- a message is taken out alone, and the others keep their order
 one_out_from : (n : ℕ) (passed later : List Message) (m : Message) (next : ℕ) → RiseFrom n (passed ++ m ∷ later) next
     → without m.serial (passed ++ m ∷ later) ≡ passed ++ later
-one_out_from n [] later m next r = ap (λ b. if b then later else (m ∷ without m.serial later)) (eq-eqb m.serial m.serial refl)
+one_out_from n [] later m next r =
+    ap (λ b. if b then later else (m ∷ without m.serial later)) (eq-eqb m.serial m.serial refl)
 one_out_from n (p ∷ ps) later m next r =
     ap (λ b. if b then (ps ++ m ∷ later) else (p ∷ without m.serial (ps ++ m ∷ later)))
     (ne_eqb m.serial p.serial (λ e. absurd (omega (arith, e, later_rise (p.serial + 1) ps later m next r.1))))
     ∙ ap (λ ms. p ∷ ms) (one_out_from (p.serial + 1) ps later m next r.1)
   where
-    later_rise : (n : ℕ) (passed later : List Message) (m : Message) (next : ℕ) → RiseFrom n (passed ++ m ∷ later) next → n ≤ m.serial
+    later_rise : (n : ℕ) (passed later : List Message) (m : Message) (next : ℕ)
+        → RiseFrom n (passed ++ m ∷ later) next → n ≤ m.serial
     later_rise n [] later m next r = r.0
     later_rise n (p ∷ ps) later m next r = omega (arith, r.0, later_rise (p.serial + 1) ps later m next r.1)
 

@@ -5,9 +5,9 @@ use Rattle.erl_base.specs.Names.{Name, same_name}
 use Rattle.erl_term.specs.Term as T
 use Rattle.erl_term.specs.Term.{Term, none, more}
 use Rattle.erl_term.specs.Terms.{Values, listed, list_of, tagged}
-use Rattle.bif_table.specs.BuiltinAnswer.{lookup, answer}
+use Rattle.bif_table.specs.BuiltinAnswer.{lookup, answer, badarg}
 use Rattle.world_model.specs.Run.{M, fail}
-use Rattle.world_model.specs.Requests.{badarg, call_out, answers, is_send, send_or_call}
+use Rattle.world_model.specs.Requests.{call_out, answers, is_send, send_or_call}
 
 -- a call of the module erlang, in a process with this pid: listed functions are answered, sends are requests, and so is
 -- everything else
@@ -25,9 +25,9 @@ call_terms own (T.atom m) (T.atom f) vs =
     if same_name m (codes "erlang") then call_erlang own f vs else call_out m f vs
 call_terms own _ _ vs = fail T.error badarg
 
--- a call of f with another number of arguments than its arity
-abbrev pub badarity : Term → Values → M Values
-badarity f vs = fail T.error (tagged (codes "badarity") (T.tuple (more f (more (list_of vs T.nil) none))))
+-- the reason of a call of f with another number of arguments than its arity
+abbrev pub badarity : Term → Values → Term
+badarity f vs = tagged (codes "badarity") (T.tuple (more f (more (list_of vs T.nil) none)))
 
 -- whether a function, if there is one, has n parameters
 abbrev pub takes : Option ℕ → ℕ → Bool
@@ -44,12 +44,12 @@ pub record Callees : Type 0 where
 -- a call of a term; a fun of another module, or of another version of this one, is a request
 abbrev pub apply_term : Callees → Term → Values → M Values
 apply_term callees (T.fun m s a cs) vs =
-    if not (eqb a (length vs)) then badarity (T.fun m s a cs) vs
+    if not (eqb a (length vs)) then fail T.error (badarity (T.fun m s a cs) vs)
     else if same_name m callees.name && takes (callees.parameters s) (a + length (listed cs))
     then callees.enter s (vs ++ listed cs)
     else call_out (codes "erlang") (codes "apply") (T.fun m s a cs ∷ list_of vs T.nil ∷ [])
 apply_term callees (T.extern m f a) vs =
-    if not (eqb a (length vs)) then badarity (T.extern m f a) vs else call_out m f vs
+    if not (eqb a (length vs)) then fail T.error (badarity (T.extern m f a) vs) else call_out m f vs
 apply_term callees t vs = fail T.error (tagged (codes "badfun") t)
 
 -- raises with the class that a raw trace keeps

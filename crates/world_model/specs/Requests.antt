@@ -3,8 +3,8 @@ use Rattle.std.specs.Prelude.{[], ◌∷◌, Bool, ◌||◌, codes}
 use Rattle.erl_base.specs.Names.{Name, same_name}
 use Rattle.erl_term.specs.Term as T
 use Rattle.erl_term.specs.Term.{Term, Terms, none, more, Class}
-use Rattle.erl_term.specs.Terms.{Values, word, tagged}
-use Rattle.bif_table.specs.BuiltinAnswer.{Answer, value, raised}
+use Rattle.erl_term.specs.Terms.{Values, tagged}
+use Rattle.bif_table.specs.BuiltinAnswer.{Answer, value, raised, badarg}
 use Rattle.world_model.specs.World as W
 use Rattle.world_model.specs.World.{Reply}
 use Rattle.world_model.specs.Run.{M, ◌>>=◌, fail, ask}
@@ -22,10 +22,6 @@ replied r = elim r.how [
 -- a call of a function of the outside
 abbrev pub call_out : Name → Name → Values → M Values
 call_out m f vs = ask (W.call m f vs) >>= replied
-
--- the reason of a call with a term that it can not take
-abbrev pub badarg : Term
-badarg = word (codes "badarg")
 
 -- a send gives the message, or raises badarg
 abbrev pub sent : Term → Reply → M Values

@@ -28,4 +28,6 @@ returns-clause-valid c =
 pub returns-clause-correct : goal.returns-clause-correct
 returns-clause-correct c =
     let t : PlainText c.args.bytes.now (module_view c.in-Some.tree) = search rules in
-    is_correct c.args.bytes.now _ (has_code c.args.bytes.now (module_view c.in-Some.tree) _ t c.in_ok-made.ensures) c.plain_modules_behave_the_same.ensures
+    is_correct c.args.bytes.now _
+    (has_code c.args.bytes.now (module_view c.in-Some.tree) _ t c.in_ok-made.ensures)
+    c.plain_modules_behave_the_same.ensures

@@ -5,4 +5,5 @@ use Rattle.beam_table.specs.ModuleForms.{greatest}
 use Rattle.asm_text.proofs.printer.greatest_in.Given as goal
 
 abbrev pub invariant-loop-insn : goal.invariant-loop-insn
-invariant-loop-insn l = max l.most (greatest (labels_in (map insn_view (drop l.insn-index l.code)))) ≡ greatest (labels_in (map insn_view l.code))
+invariant-loop-insn l = max l.most (greatest (labels_in (map insn_view (drop l.insn-index l.code))))
+    ≡ greatest (labels_in (map insn_view l.code))

@@ -7,5 +7,6 @@ use Rattle.asm_text.proofs.printer.put_code.Given as goal
 abbrev pub invariant-loop-insn : goal.invariant-loop-insn
 invariant-loop-insn l = record {
   has_text : IsTrue (every insn_has_text (map insn_view (drop l.insn-index l.code)));
-  added : (r : List ℕ) → l.out ++ code_on (map insn_view (drop l.insn-index l.code)) r ≡ l.initial.out ++ code_on (map insn_view l.code) r;
+  added : (r : List ℕ) → l.out ++ code_on (map insn_view (drop l.insn-index l.code)) r
+      ≡ l.initial.out ++ code_on (map insn_view l.code) r;
 }

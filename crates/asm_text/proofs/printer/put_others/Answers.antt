@@ -7,7 +7,8 @@ use Rattle.asm_text.proofs.printer.put_others.Goals as goal
 pub loop-key-preserved : goal.loop-key-preserved
 unfolding chars
 loop-key-preserved c =
-    let cons : drop c.loop-key.key-index c.args.keys.now ≡ c.key-item.result ∷ drop (c.loop-key.key-index + 1) c.args.keys.now = grind (arith, common_steps) in
+    let cons : drop c.loop-key.key-index c.args.keys.now
+    ≡ c.key-item.result ∷ drop (c.loop-key.key-index + 1) c.args.keys.now = grind (arith, common_steps) in
     other_added _ _ _ _ _ _ _ cons c.in_ok-put_str.ensures c.in_ok-put_key.ensures c.loop-key.invariant
 
 pub returns : goal.returns

@@ -6,4 +6,5 @@ use Rattle.beam_table.specs.ModuleForms.{key_term}
 use Rattle.asm_text.proofs.printer.put_others.Given as goal
 
 abbrev pub invariant-loop-key : goal.invariant-loop-key
-invariant-loop-key l = (r : List ℕ) → l.out ++ rest_on (list_of (map key_term (drop l.key-index l.keys)) T.nil) r ≡ l.initial.out ++ rest_on (list_of (map key_term l.keys) T.nil) r
+invariant-loop-key l = (r : List ℕ) → l.out ++ rest_on (list_of (map key_term (drop l.key-index l.keys)) T.nil) r
+    ≡ l.initial.out ++ rest_on (list_of (map key_term l.keys) T.nil) r

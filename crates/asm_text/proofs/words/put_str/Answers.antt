@@ -6,7 +6,8 @@ use Rattle.asm_text.proofs.words.put_str.Goals as goal
 pub loop-c-preserved : goal.loop-c-preserved
 loop-c-preserved c = record {
   utf8 = IsUtf8-past_char _ _ _ c.loop-c.invariant.utf8 c.in-Some.ensures.steps.0;
-  added = char_added _ _ _ _ _ _ c.loop-c.invariant.utf8 c.in-Some.ensures.steps.0 (search rules) c.loop-c.invariant.added;
+  added = char_added _ _ _ _ _ _ c.loop-c.invariant.utf8 c.in-Some.ensures.steps.0
+      (search rules) c.loop-c.invariant.added;
 }
 
 pub returns : goal.returns

@@ -22,15 +22,18 @@ use Rattle.erl_base.specs.declared.list.List.TheView.{view, invariant}
 use Rattle.erl_base.specs.contracts.list.List as C
 use Rattle.erl_base.specs.contracts.list.List.TheInside as I
 
+-- a list holds its items
 abbrev pub the_former : Former {0} → Former {0}
 the_former g = list g
 
+-- and weighs as a list of them
 abbrev pub the_weighed : {g : Former {0}} → Weighed g → Weighed (the_former g)
 the_weighed w = w_list w
 
 pub the_empty : List ⊥
 the_empty = []
 
+-- its items in their order
 abbrev pub the_items : (X : Type 0) → List X → List X
 the_items X d = d
 
@@ -38,15 +41,19 @@ pub the_items_listed : (X : Type 0) (d : List X) → listed _ (children (the_for
 the_items_listed X d = list-listed X d
 
 abbrev fields : Former {0}
-fields = via (vec.the_former this Global) Inside (λ X a. a.items) (λ X v. record { items = v }) (λ X a. refl) (λ X v. refl)
+fields = via (vec.the_former this Global) Inside (λ X a. a.items) (λ X v. record { items = v })
+    (λ X a. refl) (λ X v. refl)
 
 module _ (R S : RattleType) (h : R.Denot → S.Denot) where
   pub the_places : Alike R S h → Alike (C.the_row R) (C.the_row S) ((the_former this).map R.Denot S.Denot h)
-  the_places a = view_places fields (list this) view (λ X Y k u. refl) (λ X u. refl) R.Denot S.Denot h (C.the_row R).coded (C.the_row S).coded
+  the_places a = view_places fields (list this) view (λ X Y k u. refl) (λ X u. refl) R.Denot S.Denot h
+      (C.the_row R).coded (C.the_row S).coded
       (invariant R.Denot) (invariant S.Denot) (λ u. le_prop) (λ u. le_prop)
-      (λ u e. subst (λ n. n ≤ 4294967295) (sym (length-map u.items.items h)) e) (λ u e. subst (λ n. n ≤ 4294967295) (length-map u.items.items h) e)
+      (λ u e. subst (λ n. n ≤ 4294967295) (sym (length-map u.items.items h)) e)
+      (λ u e. subst (λ n. n ≤ 4294967295) (length-map u.items.items h) e)
       (over (I.the_row R)) (over (I.the_row S))
-      (struct_places (I.the_type R) (I.the_type S) (vec.mapped h, tt) _ (λ d. refl) refl (laid _ _ _ (vec.the_places heap.the_row ghosts R S h a), tt))
+      (struct_places (I.the_type R) (I.the_type S) (vec.mapped h, tt) _ (λ d. refl) refl
+      (laid _ _ _ (vec.the_places heap.the_row ghosts R S h a), tt))
 
   pub the_codes_placed : Recodes R S h → Recodes (C.the_row R) (C.the_row S) ((the_former this).map R.Denot S.Denot h)
   the_codes_placed e d = sym (code_map R.coded.code S.coded.code h (λ x. sym (e x)) d)

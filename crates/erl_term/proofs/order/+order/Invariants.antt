@@ -12,14 +12,16 @@ invariant-compare_common-loop-i l = record {
 
 abbrev pub invariant-compare_keys-loop-i : goal.invariant-compare_keys-loop-i
 invariant-compare_keys-loop-i l = record {
-  same : compare_keys (pair_row (drop l.i l.ps)) (pair_row (drop l.i l.qs)) ≡ compare_keys (pair_row l.ps) (pair_row l.qs);
+  same : compare_keys (pair_row (drop l.i l.ps)) (pair_row (drop l.i l.qs))
+      ≡ compare_keys (pair_row l.ps) (pair_row l.qs);
   first : PairsNormal (drop l.i l.ps);
   second : PairsNormal (drop l.i l.qs);
 }
 
 abbrev pub invariant-compare_values-loop-i : goal.invariant-compare_values-loop-i
 invariant-compare_values-loop-i l = record {
-  same : compare_values (pair_row (drop l.i l.ps)) (pair_row (drop l.i l.qs)) ≡ compare_values (pair_row l.ps) (pair_row l.qs);
+  same : compare_values (pair_row (drop l.i l.ps)) (pair_row (drop l.i l.qs))
+      ≡ compare_values (pair_row l.ps) (pair_row l.qs);
   first : ValuesNormal (drop l.i l.ps);
   second : ValuesNormal (drop l.i l.qs);
 }

@@ -7,7 +7,8 @@ use Rattle.erl_term.proofs.order.compare_bytes.Goals as goal
 
 pub returns : goal.returns
 returns c =
-    c.cmp-2.ensures ∙ sym (bytes_end c.args.a.now c.args.b.now c.loop-i.i (omega arith) (omega arith) (omega arith)) ∙ c.loop-i.invariant
+    c.cmp-2.ensures ∙ sym (bytes_end c.args.a.now c.args.b.now c.loop-i.i (omega arith) (omega arith) (omega arith))
+    ∙ c.loop-i.invariant
 
 pub returns-in_default : goal.returns-in_default
 returns-in_default c =
@@ -17,6 +18,8 @@ returns-in_default c =
 
 pub loop-i-preserved : goal.loop-i-preserved
 loop-i-preserved c =
-    ap (λ o. ordering_then o (slice_cmp bool_cmp (byte_bits (drop (c.loop-i.i + 1) c.args.a.now)) (byte_bits (drop (c.loop-i.i + 1) c.args.b.now)))) c.in-Equal.ensures
+    ap (λ o. ordering_then o
+    (slice_cmp bool_cmp (byte_bits (drop (c.loop-i.i + 1) c.args.a.now))
+    (byte_bits (drop (c.loop-i.i + 1) c.args.b.now)))) c.in-Equal.ensures
     ∙ sym (bytes_step c.args.a.now c.args.b.now c.loop-i.i (omega arith) (omega arith) (search rules) (search rules))
     ∙ c.loop-i.invariant

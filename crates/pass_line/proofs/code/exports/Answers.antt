@@ -15,8 +15,10 @@ pub loop-name-preserved : goal.loop-name-preserved
 loop-name-preserved c = record {
   known = c.in_ok-add.ensures.same;
   so_far =
-      ap (λ l. l ++ without_all l (each_once (map (λ f. f.key) (drop (c.loop-name.name-index + 1) c.args.names.now)))) c.in_ok-add.ensures.added
-      ∙ sym (once_step c.name-item.result.key c.loop-name.made (map (λ f. f.key) (drop (c.loop-name.name-index + 1) c.args.names.now)))
+      ap (λ l. l ++ without_all l (each_once (map (λ f. f.key) (drop (c.loop-name.name-index + 1) c.args.names.now))))
+      c.in_ok-add.ensures.added
+      ∙ sym (once_step c.name-item.result.key c.loop-name.made
+      (map (λ f. f.key) (drop (c.loop-name.name-index + 1) c.args.names.now)))
       ∙ ap (λ l. c.loop-name.made ++ without_all c.loop-name.made (each_once (map (λ f. f.key) l)))
       (sym (next c.args.names.now c.loop-name.name-index c.name-item.result (omega arith) c.name-item.is))
       ∙ c.loop-name.invariant.so_far;

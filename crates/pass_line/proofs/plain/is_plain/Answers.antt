@@ -1,6 +1,6 @@
 use Rattle.std.proofs.Common.{rules, arith, ap, ◌∙◌}
 use Rattle.pass_line.specs.PlainModule.{are_known}
-use Rattle.pass_line.proofs.Plainness.{too_many, doubled, attributed, told, ok_then}
+use Rattle.pass_line.proofs.Plainness.{too_many, doubled, attributed, told}
 use Rattle.pass_line.proofs.plain.is_plain.Goals as goal
 
 pub returns-then-len-gt20000 : goal.returns-then-len-gt20000
@@ -14,6 +14,6 @@ returns-in-None c = (λ t. absurd cc, λ p. absurd (doubled c.args.tree.now.defs
 
 pub returns-in-Some : goal.returns-in-Some
 returns-in-Some c =
-    ok_then c.are_known.result c.are_known.ensures
-    (λ b e. told c.args.tree.now c.in-Some.known b (omega arith) (search rules) (search rules) (search rules) (search rules) (search rules)
-    (e ∙ ap (are_known c.in-Some.known) c.as_slice-in-Some.ensures))
+    told c.args.tree.now c.in-Some.known c.are_known.result (omega arith) (search rules) (search rules) (search rules)
+    (search rules) (search rules)
+    (c.are_known.ensures ∙ ap (are_known c.in-Some.known) c.as_slice-in-Some.ensures)

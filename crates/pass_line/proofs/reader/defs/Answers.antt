@@ -11,24 +11,29 @@ pub returns-in_default-2 : goal.returns-in_default-2
 returns-in_default-2 c =
     sym c.loop-rest.invariant
     ∙ defs-no_name _ _ _ _ _ _ _ _ _
-    (front6 _ _ _ _ _ _ _ c.in-len6-up.len_at_least c.name-item.is c.slash-item.is c.number-item.is c.equals-item.is c.word-item.is c.paren-item.is) (search rules)
+    (front6 _ _ _ _ _ _ _ c.in-len6-up.len_at_least c.name-item.is c.slash-item.is c.number-item.is c.equals-item.is
+    c.word-item.is c.paren-item.is) (search rules)
 
 pub returns-then-not-opens_fun : goal.returns-then-not-opens_fun
 returns-then-not-opens_fun c =
     sym c.loop-rest.invariant
     ∙ defs-no_fun _ _ _ _ _ _ _ _ _
-    (front6 _ _ _ _ _ _ _ c.in-len6-up.len_at_least c.name-item.is c.slash-item.is c.number-item.is c.equals-item.is c.word-item.is c.paren-item.is)
+    (front6 _ _ _ _ _ _ _ c.in-len6-up.len_at_least c.name-item.is c.slash-item.is c.number-item.is c.equals-item.is
+    c.word-item.is c.paren-item.is)
     (search rules) (search rules)
 
 pub returns-in_default-3 : goal.returns-in_default-3
 returns-in_default-3 c =
     let f : c.in-Some.named ≡ fun_name c.name-item.result c.number-item.result = search rules in
-    let h : (ds : List Plain.Def) → params ds c.in-Some.named c.word-item.result.place (behind 6 c.loop-rest.rest.now) ≡ None = λ ds. search rules in
+    let h : (ds : List Plain.Def) → params ds c.in-Some.named c.word-item.result.place (behind 6 c.loop-rest.rest.now)
+    ≡ None = λ ds. search rules in
     sym c.loop-rest.invariant
     ∙ defs-open _ _ _ _ _ _ _ _ _
-    (front6 _ _ _ _ _ _ _ c.in-len6-up.len_at_least c.name-item.is c.slash-item.is c.number-item.is c.equals-item.is c.word-item.is c.paren-item.is)
+    (front6 _ _ _ _ _ _ _ c.in-len6-up.len_at_least c.name-item.is c.slash-item.is c.number-item.is c.equals-item.is
+    c.word-item.is c.paren-item.is)
     (search rules) (search rules)
-    ∙ ap (λ x. params (map def_view c.loop-rest.found) x c.word-item.result.place (behind 6 c.loop-rest.rest.now)) (sym f)
+    ∙ ap (λ x. params (map def_view c.loop-rest.found) x c.word-item.result.place (behind 6 c.loop-rest.rest.now))
+    (sym f)
     ∙ h (map def_view c.loop-rest.found)
 
 pub loop-rest-preserved : goal.loop-rest-preserved
@@ -42,6 +47,7 @@ loop-rest-preserved c =
     ∙ sym (h (map def_view c.loop-rest.found))
     ∙ ap (λ x. params (map def_view c.loop-rest.found) x c.word-item.result.place (behind 6 c.loop-rest.rest.now)) f
     ∙ sym (defs-open _ _ _ _ _ _ _ _ _
-    (front6 _ _ _ _ _ _ _ c.in-len6-up.len_at_least c.name-item.is c.slash-item.is c.number-item.is c.equals-item.is c.word-item.is c.paren-item.is)
+    (front6 _ _ _ _ _ _ _ c.in-len6-up.len_at_least c.name-item.is c.slash-item.is c.number-item.is c.equals-item.is
+    c.word-item.is c.paren-item.is)
     (search rules) (search rules))
     ∙ c.loop-rest.invariant

@@ -21,8 +21,10 @@ pub returns-clause-value : goal.returns-clause-value
 returns-clause-value c =
     let q : c.push.new.self ≡ binder c.first-item.result ∷ [] = search rules in
     carried c.params_after.result
-    (λ h ds f p. params-variable ds f p _ _ _ (front1 _ _ c.in-len1-up.len_at_least c.first-item.is) (search rules) (search rules)
+    (λ h ds f p. params-variable ds f p _ _ _ (front1 _ _ c.in-len1-up.len_at_least c.first-item.is)
+    (search rules) (search rules)
     ∙ ap (λ x. params_after ds f p x (behind 1 c.args.tokens.now)) (sym q) ∙ h ds f p)
-    (λ r h ds f p. params-variable ds f p _ _ _ (front1 _ _ c.in-len1-up.len_at_least c.first-item.is) (search rules) (search rules)
+    (λ r h ds f p. params-variable ds f p _ _ _ (front1 _ _ c.in-len1-up.len_at_least c.first-item.is)
+    (search rules) (search rules)
     ∙ ap (λ x. params_after ds f p x (behind 1 c.args.tokens.now)) (sym q) ∙ h ds f p)
     c.params_after.ensures.value

@@ -7,7 +7,8 @@ use Rattle.pass_line.proofs.reader.params_after.Given as goal
 
 abbrev pub invariant-loop-rest : goal.invariant-loop-rest
 invariant-loop-rest l = record {
-  same : (ds : List Plain.Def) (f : FunName) (p : Place) → params_after ds f p l.xs l.rest ≡ params_after ds f p l.fn.xs l.fn.tokens;
+  same : (ds : List Plain.Def) (f : FunName) (p : Place)
+      → params_after ds f p l.xs l.rest ≡ params_after ds f p l.fn.xs l.fn.tokens;
   shorter : length l.rest ≤ length l.fn.tokens;
 }
 

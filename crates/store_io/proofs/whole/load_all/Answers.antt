@@ -12,7 +12,8 @@ loop-count-preserved g c =
       size = search rules;
       files = search (rules, same_then);
       read =
-          subst (λ (bytes : List ℕ). IfSome (g.S.Store.told c.args.store.now).files (λ f. HasRead bytes (f c.args.name.now)))
+          subst (λ (bytes : List ℕ). IfSome (g.S.Store.told c.args.store.now).files
+          (λ f. HasRead bytes (f c.args.name.now)))
           (sym more) (more_loaded Failed _ _ _ c.args.name.now _ _ c.in-Ok.count c.loop-count.invariant.files
           (rw place at c.in-Ok.ensures.files) c.loop-count.invariant.read c.in-Ok.ensures.within);
       rooms = rooms_then _ _ _ c.loop-count.invariant.rooms c.in-Ok.ensures.rooms;

@@ -10,7 +10,8 @@ invariant-loop-count g l =
       files : Alike (g.S.Store.told l.fn.store).files (g.S.Store.told l.store).files Same;
       read : IfSome (g.S.Store.told l.fn.store).files (λ f. HasRead l.bytes.items (f l.name));
       rooms : Alike (g.S.Store.told l.fn.store).rooms (g.S.Store.told l.store).rooms Same;
-      count : IfSome (g.S.Store.told l.fn.store).rooms (λ r. (g.S.Store.told l.store).read_faults ≡ (g.S.Store.told l.fn.store).read_faults);
+      count : IfSome (g.S.Store.told l.fn.store).rooms
+          (λ r. (g.S.Store.told l.store).read_faults ≡ (g.S.Store.told l.fn.store).read_faults);
       reads : (g.S.Store.told l.fn.store).read_faults ≤ (g.S.Store.told l.store).read_faults;
       writes : (g.S.Store.told l.store).write_faults ≡ (g.S.Store.told l.fn.store).write_faults;
     }

@@ -17,9 +17,12 @@ loop-c-init c =
 
 pub loop-c-preserved : goal.loop-c-preserved
 loop-c-preserved c =
-    let cons = drop_more c.args.text.now c.loop-c.c-index c.c-item.result c.loop-c-test.true ∙ ap (λ y. y ∷ drop (c.loop-c.c-index + 1) c.args.text.now) (sym c.c-item.is) in
+    let cons = drop_more c.args.text.now c.loop-c.c-index c.c-item.result c.loop-c-test.true
+    ∙ ap (λ y. y ∷ drop (c.loop-c.c-index + 1) c.args.text.now) (sym c.c-item.is) in
     record {
-      read = code_point_step _ _ _ _ _ _ _ cons c.in_ok-push.ensures.ok c.code_point.ensures.value c.loop-c.invariant.read;
-      well_formed = term_pushed _ _ _ c.in_ok-push.ensures.ok c.loop-c.invariant.well_formed c.code_point.ensures.well_formed;
+      read = code_point_step _ _ _ _ _ _ _ cons c.in_ok-push.ensures.ok c.code_point.ensures.value
+          c.loop-c.invariant.read;
+      well_formed = term_pushed _ _ _ c.in_ok-push.ensures.ok c.loop-c.invariant.well_formed
+          c.code_point.ensures.well_formed;
       number = number_pushed _ _ _ _ c.in_ok-push.ensures.ok c.loop-c.invariant.number;
     }

@@ -5,4 +5,5 @@ pub returns-clause-value : goal.returns-clause-value
 returns-clause-value c = longer_value _ _ _ _ c.in_ok-appended.ensures
 
 pub returns-clause-well_formed : goal.returns-clause-well_formed
-returns-clause-well_formed c = longer_well_formed _ _ _ _ c.in_ok-appended.ensures c.requires.some c.requires.items c.requires.tail
+returns-clause-well_formed c =
+    longer_well_formed _ _ _ _ c.in_ok-appended.ensures c.requires.some c.requires.items c.requires.tail

@@ -54,7 +54,8 @@ decreases-items l = 10 * l.depth + 1
 
 abbrev pub invariant-items-loop-terms : goal.invariant-items-loop-terms
 invariant-items-loop-terms l = record {
-  read : before (map view l.terms) (items_of (read_by l.depth) l.rest) ≡ before (map view l.fn.found) (items_of (read_by l.depth) l.fn.cs);
+  read : before (map view l.terms) (items_of (read_by l.depth) l.rest)
+      ≡ before (map view l.fn.found) (items_of (read_by l.depth) l.fn.cs);
   well_formed : AreWellFormed l.terms;
   fits : length l.rest ≤ length l.fn.cs;
 }
@@ -64,7 +65,8 @@ decreases-items-loop-terms l = length l.rest
 
 abbrev pub invariant-pairs-loop-found : goal.invariant-pairs-loop-found
 invariant-pairs-loop-found l = record {
-  read : before (map pair_view l.found) (items_of (pair_by (read_by l.depth)) l.rest) ≡ items_of (pair_by (read_by l.depth)) l.fn.cs;
+  read : before (map pair_view l.found) (items_of (pair_by (read_by l.depth)) l.rest)
+      ≡ items_of (pair_by (read_by l.depth)) l.fn.cs;
   well_formed : PairsWellFormed l.found;
   fits : length l.rest ≤ length l.fn.cs;
 }

@@ -4,4 +4,5 @@ use Rattle.erl_base.specs.Names.{same_name}
 use Rattle.term_text.proofs.atoms.is_among.Given as goal
 
 abbrev pub invariant-loop-word : goal.invariant-loop-word
-invariant-loop-word l = list_any (λ word. same_name word.now l.name) (drop l.word-index l.words) ≡ list_any (λ word. same_name word.now l.name) l.words
+invariant-loop-word l = list_any (λ word. same_name word.now l.name) (drop l.word-index l.words)
+    ≡ list_any (λ word. same_name word.now l.name) l.words

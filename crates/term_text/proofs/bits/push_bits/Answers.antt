@@ -17,10 +17,12 @@ pub returns : goal.returns
 returns c =
     let w : c.loop-i.i ≡ c.args.count / 8 = omega arith in
     let k =
-    subst (λ i. (r : List ℕ) → c.loop-i.out ++ row_at (eqb i 0) (c.args.count - 8 * i) (drop i c.args.bytes.now) r ≡ c.args.out.now ++ row_at true c.args.count c.args.bytes.now r)
+    subst (λ i. (r : List ℕ) → c.loop-i.out ++ row_at (eqb i 0) (c.args.count - 8 * i) (drop i c.args.bytes.now) r
+    ≡ c.args.out.now ++ row_at true c.args.count c.args.bytes.now r)
     w c.loop-i.invariant
     in
     on_ok c.push_part.result
-    (λ e. ended c.loop-i.out c.push_part.new.out _ (eqb (c.args.count / 8) 0) c.args.bytes.now (c.args.count / 8) c.args.count (c.args.count % 8)
+    (λ e. ended c.loop-i.out c.push_part.new.out _ (eqb (c.args.count / 8) 0) c.args.bytes.now
+    (c.args.count / 8) c.args.count (c.args.count % 8)
     refl refl refl (omega arith) (omega (arith, c.requires)) (search rules) e k)
     c.push_part.ensures

@@ -14,12 +14,14 @@ push_pair-push_term-requires-2 t c =
 pub push_term-push_rest-requires : goal.push_term-push_rest-requires
 push_term-push_rest-requires t c =
     let n : IsNormal c.get.result.now = tail_normal _ _ _ _ c.in-List.is c.get.ensures c.requires in
-    let l : IsTrue (not (layout c.get.result.now).listed) = tail_not_listed _ _ _ _ c.in-List.is c.get.ensures c.requires in
+    let l : IsTrue (not (layout c.get.result.now).listed) =
+    tail_not_listed _ _ _ _ c.in-List.is c.get.ensures c.requires in
     search (rules, the_lemmas)
 
 pub push_rest-returns-then-rank-eq-NIL : goal.push_rest-returns-then-rank-eq-NIL
 push_rest-returns-then-rank-eq-NIL t c r =
-    c.in_ok-push_bytes.ensures.added r ∙ sym (ap (λ x. c.args.out.now ++ x) (nil_rest _ _ c.rank.ensures c.if-rank-eq-NIL.true r))
+    c.in_ok-push_bytes.ensures.added r
+    ∙ sym (ap (λ x. c.args.out.now ++ x) (nil_rest _ _ c.rank.ensures c.if-rank-eq-NIL.true r))
 
 pub push_rest-returns : goal.push_rest-returns
 push_rest-returns t c r =
@@ -56,4 +58,5 @@ push_term-returns-in_ok-push_row-in-Fun t c =
 
 pub push_term-returns-in-Int : goal.push_term-returns-in-Int
 push_term-returns-in-Int t c =
-    on_ok c.push_whole.result (λ e r. e r ∙ ap (λ x. c.args.out.now ++ x) (integer_at _ _ c.in-Int.is r)) c.push_whole.ensures
+    on_ok c.push_whole.result
+    (λ e r. e r ∙ ap (λ x. c.args.out.now ++ x) (integer_at _ _ c.in-Int.is r)) c.push_whole.ensures

@@ -6,10 +6,13 @@ use Rattle.utf8_text.proofs.pieces.end_of.Goals as goal
 
 pub loop-c-preserved : goal.loop-c-preserved
 loop-c-preserved c = record {
-  rest = place_more _ _ _ _ _ _ c.loop-c.invariant.utf8 c.in-Some.ensures.steps.0 c.past-place.ensures c.loop-c.invariant.rest;
+  rest = place_more _ _ _ _ _ _ c.loop-c.invariant.utf8 c.in-Some.ensures.steps.0 c.past-place.ensures
+      c.loop-c.invariant.rest;
   utf8 = IsUtf8-past_char _ _ _ c.loop-c.invariant.utf8 c.in-Some.ensures.steps.0;
-  line = let l = line_more _ _ _ _ c.past-place.ensures c.loop-c.invariant.line in omega (arith, l, length_push c.loop-c.yielded c.in-Some.c);
-  column = let l = column_more _ _ _ _ c.past-place.ensures c.loop-c.invariant.column in omega (arith, l, length_push c.loop-c.yielded c.in-Some.c);
+  line = let l = line_more _ _ _ _ c.past-place.ensures c.loop-c.invariant.line
+      in omega (arith, l, length_push c.loop-c.yielded c.in-Some.c);
+  column = let l = column_more _ _ _ _ c.past-place.ensures c.loop-c.invariant.column
+      in omega (arith, l, length_push c.loop-c.yielded c.in-Some.c);
 }
 
 pub returns : goal.returns

@@ -5,7 +5,8 @@ use Rattle.std.proofs.lemmas.Iterator.{YieldsList-from_chars}
 use Rattle.std.proofs.lemmas.Iterator.Search.{cmp_from_yields_List}
 use Rattle.erl_base.proofs.name.Name.compare.Goals as goal
 
-moved : (r : Ordering) (a b x y : List ℕ) → r ≡ slice_cmp nat_cmp (chars a) (chars b) → chars a ≡ x → chars b ≡ y → r ≡ slice_cmp nat_cmp x y
+moved : (r : Ordering) (a b x y : List ℕ) → r ≡ slice_cmp nat_cmp (chars a) (chars b) → chars a ≡ x → chars b ≡ y
+    → r ≡ slice_cmp nat_cmp x y
 moved r a b x y e f g = e ∙ ap₂ (slice_cmp nat_cmp) f g
 
 pub returns : goal.returns

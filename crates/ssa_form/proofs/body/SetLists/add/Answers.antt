@@ -8,5 +8,6 @@ loop-set-preserved c = record {
   is_finite = search rules;
   sets = next_sets _ _ _ _ _ c.in_ok-push-2.ensures.ok c.loop-set.invariant.sets;
   chains = search rules;
-  nodes = next_nodes _ _ _ _ _ c.in-Some.set c.in_ok-push.ensures.ok c.loop-set.invariant.nodes (c.len-node.ensures.value ∙ length_of _ _ _ c.loop-set.invariant.sets);
+  nodes = next_nodes _ _ _ _ _ c.in-Some.set c.in_ok-push.ensures.ok c.loop-set.invariant.nodes
+      (c.len-node.ensures.value ∙ length_of _ _ _ c.loop-set.invariant.sets);
 }

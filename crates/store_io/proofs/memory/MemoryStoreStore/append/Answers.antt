@@ -23,7 +23,9 @@ returns-in-Ok-clause-rooms c =
     let name = c.args.name.now in
     let m = c.args.self.now.slots in
     let was : get_by_text m name ≡ Some c.in-Some.slot.now = search rules in
-    all_stay (λ s. Some s.room) name m (c.get_mut.follows.lender c.append.new.self) c.in-Some.slot.now c.append.new.self u was (ap Some c.append.ensures.room)
+    all_stay (λ s. Some s.room) name m
+    (c.get_mut.follows.lender c.append.new.self) c.in-Some.slot.now c.append.new.self u was
+    (ap Some c.append.ensures.room)
 
 pub returns-in-Err-clause-files : goal.returns-in-Err-clause-files
 returns-in-Err-clause-files c =
@@ -42,7 +44,9 @@ returns-in-Err-clause-rooms c =
     let name = c.args.name.now in
     let m = c.args.self.now.slots in
     let was : get_by_text m name ≡ Some c.in-Some.slot.now = search rules in
-    all_stay (λ s. Some s.room) name m (c.get_mut.follows.lender c.append.new.self) c.in-Some.slot.now c.append.new.self u was (ap Some c.append.ensures.room)
+    all_stay (λ s. Some s.room) name m
+    (c.get_mut.follows.lender c.append.new.self) c.in-Some.slot.now c.append.new.self u was
+    (ap Some c.append.ensures.room)
 
 pub returns-in-Err-clause-err : goal.returns-in-Err-clause-err
 returns-in-Err-clause-err c =
@@ -50,4 +54,5 @@ returns-in-Err-clause-err c =
     let name = c.args.name.now in
     let m = c.args.self.now.slots in
     let was : get_by_text m name ≡ Some c.in-Some.slot.now = search rules in
-    all_stay file_of name m (c.get_mut.follows.lender c.append.new.self) c.in-Some.slot.now c.append.new.self u was c.in-Err.ensures.err
+    all_stay file_of name m (c.get_mut.follows.lender c.append.new.self) c.in-Some.slot.now c.append.new.self u was
+    c.in-Err.ensures.err

@@ -9,8 +9,11 @@ returns-in-Some-clause-files c =
     let u = (c.get_mut.follows.holds c.create.new.self).3 (search rules) in
     let name = c.args.name.now in
     let m = c.args.self.now.slots in
-    let m' = c.get_mut.follows.lender c.create.new.self in
-    (others_stay file_of name m m' c.create.new.self u, named_has file_of name m m' c.create.new.self u ∙ c.create.ensures.file)
+    let m' = c.get_mut.follows.lender c.create.new.self in (
+      others_stay file_of name m m' c.create.new.self u,
+      named_has file_of name m m' c.create.new.self u
+          ∙ c.create.ensures.file,
+    )
 
 pub returns-in-Some-clause-rooms : goal.returns-in-Some-clause-rooms
 returns-in-Some-clause-rooms c =
@@ -18,4 +21,6 @@ returns-in-Some-clause-rooms c =
     let name = c.args.name.now in
     let m = c.args.self.now.slots in
     let was : get_by_text m name ≡ Some c.in-Some.slot.now = search rules in
-    all_stay (λ s. Some s.room) name m (c.get_mut.follows.lender c.create.new.self) c.in-Some.slot.now c.create.new.self u was (ap Some c.create.ensures.room)
+    all_stay (λ s. Some s.room) name m
+    (c.get_mut.follows.lender c.create.new.self) c.in-Some.slot.now c.create.new.self u was
+    (ap Some c.create.ensures.room)

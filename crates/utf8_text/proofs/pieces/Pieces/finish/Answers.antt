@@ -5,5 +5,6 @@ use Rattle.utf8_text.proofs.pieces.Pieces.finish.Goals as goal
 
 pub returns-in-Some-clause-refused : goal.returns-in-Some-clause-refused
 returns-in-Some-clause-refused c =
-    let place : fault_place c.args.self ≡ Some c.in-Some.place = sym (ap fault_place c.self.view_is) ∙ sym c.self.invariant.broken_is ∙ c.in-Some.is in
+    let place : fault_place c.args.self ≡ Some c.in-Some.place =
+    sym (ap fault_place c.self.view_is) ∙ sym c.self.invariant.broken_is ∙ c.in-Some.is in
     whole_refused _ _ _ c.refused.ensures (is_refused _ _ place)

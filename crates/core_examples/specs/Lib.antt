@@ -1,0 +1,13 @@
+pub mod Build
+pub mod EvaluationOrder
+pub mod TailMarks
+pub mod Raises
+pub mod FunCalls
+pub mod WorldRequests
+pub mod SiteNumbers
+pub mod MapsAndForms
+pub mod ReceiveMarkers
+pub mod PassedOnRests
+pub mod BitSegments
+pub mod ListedAnswers
+pub mod TermsInOrder

@@ -1,0 +1,10 @@
+pub mod Build
+pub mod RoomAndRegisters
+pub mod FramesAndTags
+pub mod SelectionsAndTests
+pub mod CallRules
+pub mod ReceivePlaces
+pub mod MarkerRules
+pub mod BitContexts
+pub mod StepRules
+pub mod InvalidModules

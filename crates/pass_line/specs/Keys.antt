@@ -1,6 +1,0 @@
--- Keys of functions as a set keeps them.
-use Rattle.erl_base.specs.declared.ids.FunKey.{FunKey}
-use Rattle.pass_line.specs.declared.keys.Key.{Key}
-
-abbrev pub key_view : Key → FunKey
-key_view k = record { name = k.name.items; arity = k.arity }

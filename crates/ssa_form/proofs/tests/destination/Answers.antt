@@ -1,4 +1,0 @@
-use Rattle.ssa_form.proofs.tests.destination.Goals as goal
-
-pub set-requires : goal.set-requires
-set-requires c = c.requires.whole.sets c.args.block.0 c.args.node c.requires.there
