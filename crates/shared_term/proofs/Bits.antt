@@ -1,5 +1,7 @@
 -- Ranges of bits, and their parts.
-use Rattle.std.proofs.Common.{◌≡◌, ℕ, ◌+◌, ◌-◌, ◌*◌, ◌≤◌, ◌<◌, ◌^◌, ◌++◌, [], ◌∷◌, min, refl, sym, ap, ap₂, ◌∙◌, subst, List, length, take, drop, Bool, true, IsTrue, Some, None, leb, if◌then◌else◌, arith, length-append}
+use Rattle.std.proofs.Common.{◌≡◌, ℕ, ◌+◌, ◌-◌, ◌*◌, ◌≤◌, ◌<◌, ◌^◌, ◌++◌, [], ◌∷◌, min, refl, sym, ap, ap₂, ◌∙◌}
+use Rattle.std.proofs.Common.{subst, List, length, take, drop, Bool, true, IsTrue, Some, None, leb, if◌then◌else◌}
+use Rattle.std.proofs.Common.{arith, length-append}
 use Rattle.std.specs.declared.rc.Rc.{Rc}
 use Rattle.std.specs.declared.alloc.Global.{Global}
 use Rattle.std.proofs.lemmas.List.{drop-drop, take-take, drop-take, length-take-le, length-drop}
@@ -20,7 +22,8 @@ use Rattle.shared_term.specs.View.{Reading, reading, view, range_view, is_within
 use Rattle.shared_term.proofs.Forms.{bits-out}
 use Rattle.shared_term.proofs.OctetBits.{octets_step, bits_end, one_more, Holds, held_view, held_full}
 
-pub part_of_range : (bs : List Bool) (f l g n : ℕ) → g + n ≤ l → take n (drop g (take l (drop f bs))) ≡ take n (drop (f + g) bs)
+pub part_of_range : (bs : List Bool) (f l g n : ℕ) → g + n ≤ l
+    → take n (drop g (take l (drop f bs))) ≡ take n (drop (f + g) bs)
 part_of_range bs f l g n h =
     let e : l ≡ g + (l - g) = omega arith in
     ap (λ k. take n (drop g (take k (drop f bs)))) e ∙ ap (take n) (drop-take g (l - g) (drop f bs))
@@ -47,10 +50,12 @@ IsPart b f n c = (c.bytes.value ≡ b.bytes.value) × (c.from ≡ b.from + f) ×
 
 part_reads : (b c : BitRange) (f n : ℕ) → IsPart b f n c → range_view c ≡ take n (drop f (range_view b))
 part_reads b c f n h =
-    ap₂ (λ l k. take l (drop k (byte_bits c.bytes.value))) h.2 h.1 ∙ ap (λ bs. take n (drop (b.from + f) (byte_bits bs))) h.0
+    ap₂ (λ l k. take l (drop k (byte_bits c.bytes.value))) h.2 h.1
+    ∙ ap (λ bs. take n (drop (b.from + f) (byte_bits bs))) h.0
     ∙ sym (part_of_range (byte_bits b.bytes.value) b.from b.length f n h.3)
 
-pub slice_reads : (v : Value) (b c : BitRange) (f n : ℕ) → v ≡ V.Bits b → IsWhole v → IsPart b f n c → Some (view (V.Bits c)) ≡ slice_of f n (view v)
+pub slice_reads : (v : Value) (b c : BitRange) (f n : ℕ) → v ≡ V.Bits b → IsWhole v → IsPart b f n c
+    → Some (view (V.Bits c)) ≡ slice_of f n (view v)
 slice_reads v b c f n e h p =
     let l : leb (f + n) (length (range_view b)) ≡ true =
     leb_of _ _ (subst (λ k. f + n ≤ k) (sym (range_length b (within v b e h))) p.3) in
@@ -58,7 +63,8 @@ slice_reads v b c f n e h p =
     ∙ ap (λ t. if t then Some (P.bits (take n (drop f (range_view b)))) else None) (sym l)
     ∙ ap (λ (q : Reading). slice_of f n q.term) (sym (bits-out v b e))
 
-pub slice_whole : (v : Value) (b c : BitRange) (f n : ℕ) → v ≡ V.Bits b → IsWhole v → IsPart b f n c → IsWhole (V.Bits c)
+pub slice_whole : (v : Value) (b c : BitRange) (f n : ℕ) → v ≡ V.Bits b → IsWhole v → IsPart b f n c
+    → IsWhole (V.Bits c)
 unfolding maps_rise
 slice_whole v b c f n e h p =
     let w : b.from + b.length ≤ 8 * length b.bytes.value = within v b e h in
@@ -77,22 +83,26 @@ all_whole b e h = record {
 }
 
 -- a part of a range, in the octet that it makes
-pub range_octet : (b : BitRange) (bytes : List ℕ) (n c x : ℕ) → bytes ≡ b.bytes.value → n + c ≤ b.length → bits_of 8 x ≡ octet bytes (b.from + n) c
+pub range_octet : (b : BitRange) (bytes : List ℕ) (n c x : ℕ) → bytes ≡ b.bytes.value → n + c ≤ b.length
+    → bits_of 8 x ≡ octet bytes (b.from + n) c
     → bits_of 8 x ≡ take c (drop n (range_view b)) ++ bits_of (8 - c) 0
 range_octet b bytes n c x e h f =
     f ∙ ap (λ bs. octet bs (b.from + n) c) e
     ∙ ap (λ bits. bits ++ bits_of (8 - c) 0) (sym (part_of_range (byte_bits b.bytes.value) b.from b.length n c h))
 
 -- ranges eight bits at a time
-pub ranges_step : (a b : BitRange) (n c x y : ℕ) → IsTrue (is_within a) → IsTrue (is_within b) → x < 256 → y < 256 → n + c ≤ min a.length b.length
-    → bits_of 8 x ≡ take c (drop n (range_view a)) ++ bits_of (8 - c) 0 → bits_of 8 y ≡ take c (drop n (range_view b)) ++ bits_of (8 - c) 0
+pub ranges_step : (a b : BitRange) (n c x y : ℕ) → IsTrue (is_within a) → IsTrue (is_within b) → x < 256 → y < 256
+    → n + c ≤ min a.length b.length
+    → bits_of 8 x ≡ take c (drop n (range_view a)) ++ bits_of (8 - c) 0
+    → bits_of 8 y ≡ take c (drop n (range_view b)) ++ bits_of (8 - c) 0
     → slice_cmp bool_cmp (drop n (range_view a)) (drop n (range_view b))
     ≡ ordering_then (nat_cmp x y) (slice_cmp bool_cmp (drop (n + c) (range_view a)) (drop (n + c) (range_view b)))
 ranges_step a b n c x y g h k l m e f =
     octets_step (range_view a) (range_view b) (bits_of (8 - c) 0) n c x y k l
     (omega (arith, m, range_length a (of_leb _ _ g))) (omega (arith, m, range_length b (of_leb _ _ h))) e f
 
-pub ranges_end : (a b : BitRange) (n : ℕ) → IsTrue (is_within a) → IsTrue (is_within b) → min a.length b.length ≤ n → n ≤ min a.length b.length
+pub ranges_end : (a b : BitRange) (n : ℕ) → IsTrue (is_within a) → IsTrue (is_within b) → min a.length b.length ≤ n
+    → n ≤ min a.length b.length
     → slice_cmp bool_cmp (drop n (range_view a)) (drop n (range_view b)) ≡ nat_cmp a.length b.length
 ranges_end a b n g h k l =
     let p : length (range_view a) ≡ a.length = range_length a (of_leb _ _ g) in
@@ -100,7 +110,8 @@ ranges_end a b n g h k l =
     bits_end (range_view a) (range_view b) n (omega arith) (omega arith) (omega arith) ∙ ap₂ nat_cmp p q
 
 -- a range in bytes of its own
-pub all_held : (b : BitRange) (k : Kept) (n : ℕ) → IsTrue (is_within b) → k.length ≡ b.length → n ≡ min (8 * length k.bytes) b.length → b.length ≤ n
+pub all_held : (b : BitRange) (k : Kept) (n : ℕ) → IsTrue (is_within b) → k.length ≡ b.length
+    → n ≡ min (8 * length k.bytes) b.length → b.length ≤ n
     → 8 * length k.bytes < b.length + 8 → byte_bits k.bytes ≡ take (8 * length k.bytes) (range_view b ++ bits_of 8 0)
     → (bits_view k ≡ range_view b) × IsFull k
 all_held b k n g e i l r f =
@@ -109,8 +120,10 @@ all_held b k n g e i l r f =
     let h : Holds (range_view b) k.bytes = (f, omega (arith, q, i, l), omega (arith, q, r)) in
     (held_view (range_view b) k p h, held_full (range_view b) k p h)
 
-pub range_more : (b : BitRange) (bs : List ℕ) (n c x : ℕ) → IsTrue (is_within b) → n ≡ min (8 * length bs) b.length → n < b.length → c ≡ min 8 (b.length - n)
-    → byte_bits bs ≡ take (8 * length bs) (range_view b ++ bits_of 8 0) → bits_of 8 x ≡ take c (drop n (range_view b)) ++ bits_of (8 - c) 0
+pub range_more : (b : BitRange) (bs : List ℕ) (n c x : ℕ) → IsTrue (is_within b) → n ≡ min (8 * length bs) b.length
+    → n < b.length → c ≡ min 8 (b.length - n)
+    → byte_bits bs ≡ take (8 * length bs) (range_view b ++ bits_of 8 0)
+    → bits_of 8 x ≡ take c (drop n (range_view b)) ++ bits_of (8 - c) 0
     → byte_bits (bs ++ x ∷ []) ≡ take (8 * length (bs ++ x ∷ [])) (range_view b ++ bits_of 8 0)
 range_more b bs n c x g i l k e f =
     let p : length (range_view b) ≡ b.length = range_length b (of_leb _ _ g) in

@@ -1,13 +1,17 @@
 -- Bits of bytes, eight at a time.
-use Rattle.std.proofs.Common.{◌≡◌, ◌≢◌, ℕ, zero, suc, ◌+◌, ◌-◌, ◌*◌, ◌/◌, ◌%◌, ◌^◌, ◌≤◌, ◌<◌, min, refl, sym, ap, ap₂, ◌∙◌, subst, List, [], ◌∷◌, ◌++◌, length, take, drop, get_or, Bool, true, false, not, eqb, leb, ◌&&◌, IsTrue, arith, length-append, append_assoc, append-nil}
+use Rattle.std.proofs.Common.{◌≡◌, ◌≢◌, ℕ, zero, suc, ◌+◌, ◌-◌, ◌*◌, ◌/◌, ◌%◌, ◌^◌, ◌≤◌, ◌<◌, min, refl, sym, ap, ap₂}
+use Rattle.std.proofs.Common.{◌∙◌, subst, List, [], ◌∷◌, ◌++◌, length, take, drop, get_or, Bool, true, false, not}
+use Rattle.std.proofs.Common.{eqb, leb, ◌&&◌, IsTrue, arith, length-append, append_assoc, append-nil}
 use Rattle.std.specs.List.{list_all}
 use Rattle.std.specs.declared.cmp.Ordering.{Ordering}
 use Rattle.std.specs.declared.cmp.Ordering.TheVariants.{Less, Equal, Greater}
 use Rattle.std.specs.Ordering.{nat_cmp, bool_cmp, ordering_then}
 use Rattle.std.specs.Cmp.Lexicographic.{slice_cmp}
-use Rattle.std.proofs.lemmas.List.{drop_more, drop-drop, take-append-le, drop-append-le, take-append-drop, length-take-le, length-drop, take-take, drop-take}
+use Rattle.std.proofs.lemmas.List.{drop_more, drop-drop, take-append-le, drop-append-le, take-append-drop}
+use Rattle.std.proofs.lemmas.List.{length-take-le, length-drop, take-take, drop-take}
 use Rattle.std.proofs.lemmas.Nat.{pow-add, pow_pos, div-add-mod'}
-use Rattle.std.proofs.Math.Nat.{mul-add-div_right, mul-lt-mul_of_pos_right, div-div-eq-div-mul, mod-lt, pow-suc, div-eq_of_lt}
+use Rattle.std.proofs.Math.Nat.{mul-add-div_right, mul-lt-mul_of_pos_right, div-div-eq-div-mul, mod-lt, pow-suc}
+use Rattle.std.proofs.Math.Nat.{div-eq_of_lt}
 use Rattle.std.proofs.Math.Seq.{take-append_seam, drop-append_seam, drop-append-add, take-add}
 use Rattle.erl_term.proofs.BitOrder.{length-bits_of, length-byte_bits, bytes_step}
 use Rattle.erl_term.proofs.Comparing.{then-assoc, first_shorter, first_longer, both_longer}
@@ -61,11 +65,13 @@ drop_all : (xs ys : List Bool) (k : ℕ) → length xs ≡ k → drop k (xs ++ y
 drop_all xs ys k e = ap (λ n. drop n (xs ++ ys)) (sym e) ∙ drop-append_seam xs ys
 
 pub take-bits_of : (j k n m : ℕ) → n ≡ j + k → take j (bits_of n m) ≡ bits_of j (m / 2 ^ k)
-take-bits_of j k n m e = ap (take j) (bits-parts j k n m e) ∙ take_all (bits_of j (m / 2 ^ k)) (bits_of k (m % 2 ^ k)) j (length-bits_of j (m / 2 ^ k))
+take-bits_of j k n m e = ap (take j) (bits-parts j k n m e)
+    ∙ take_all (bits_of j (m / 2 ^ k)) (bits_of k (m % 2 ^ k)) j (length-bits_of j (m / 2 ^ k))
 
 pub drop-bits_of : (j k n m : ℕ) → n ≡ j + k → drop j (bits_of n m) ≡ bits_of k m
 drop-bits_of j k n m e =
-    ap (drop j) (bits-parts j k n m e) ∙ drop_all (bits_of j (m / 2 ^ k)) (bits_of k (m % 2 ^ k)) j (length-bits_of j (m / 2 ^ k)) ∙ bits-mod k m
+    ap (drop j) (bits-parts j k n m e)
+    ∙ drop_all (bits_of j (m / 2 ^ k)) (bits_of k (m % 2 ^ k)) j (length-bits_of j (m / 2 ^ k)) ∙ bits-mod k m
 
 -- bytes behind others
 drop-byte_bits : (q : ℕ) (bs : List ℕ) → drop (8 * q) (byte_bits bs) ≡ byte_bits (drop q bs)
@@ -78,7 +84,8 @@ drop-byte_bits (suc q) [] = none (8 * suc q)
     none (suc n) = refl
 drop-byte_bits (suc q) (b ∷ bs) =
     let e : 8 * suc q ≡ length (bits_of 8 b) + 8 * q = omega (arith, length-bits_of 8 b) in
-    ap (λ n. drop n (bits_of 8 b ++ byte_bits bs)) e ∙ drop-append-add (bits_of 8 b) (byte_bits bs) (8 * q) ∙ drop-byte_bits q bs
+    ap (λ n. drop n (bits_of 8 b ++ byte_bits bs)) e ∙ drop-append-add (bits_of 8 b) (byte_bits bs) (8 * q)
+    ∙ drop-byte_bits q bs
 
 -- what is taken within the first of two
 window : (s c : ℕ) (xs ys : List Bool) → s + c ≤ length xs → take c (drop s (xs ++ ys)) ≡ take c (drop s xs)
@@ -87,7 +94,8 @@ window s c xs ys h =
     ∙ take-append-le c (drop s xs) ys (omega (arith, h, length-drop s xs))
 
 -- the bits of two bytes, the second of which may be missing where it is not needed
-two_bytes : (bs : List ℕ) (q l s c : ℕ) → q < length bs → (q + 1 < length bs → l ≡ get_or bs (q + 1) 0) → s + c ≤ 16 → (length bs ≤ q + 1 → s + c ≤ 8)
+two_bytes : (bs : List ℕ) (q l s c : ℕ) → q < length bs → (q + 1 < length bs → l ≡ get_or bs (q + 1) 0) → s + c ≤ 16
+    → (length bs ≤ q + 1 → s + c ≤ 8)
     → take c (drop s (byte_bits (drop q bs))) ≡ take c (drop s (bits_of 8 (get_or bs q 0) ++ bits_of 8 l))
 unfolding byte_bits
 two_bytes bs q l s c h g u v =
@@ -97,7 +105,8 @@ two_bytes bs q l s c h g u v =
     first = bits_of 8 (get_or bs q 0)
 
     by : (ds : List ℕ) → drop (q + 1) bs ≡ ds
-        → take c (drop s (bits_of 8 (get_or bs q 0) ++ byte_bits ds)) ≡ take c (drop s (bits_of 8 (get_or bs q 0) ++ bits_of 8 l))
+        → take c (drop s (bits_of 8 (get_or bs q 0) ++ byte_bits ds)) ≡ take c
+        (drop s (bits_of 8 (get_or bs q 0) ++ bits_of 8 l))
     by [] e =
         let k : length bs ≤ q + 1 = omega (arith, length-drop (q + 1) bs, ap length e) in
         let w : s + c ≤ length (bits_of 8 (get_or bs q 0)) = omega (arith, v k, length-bits_of 8 (get_or bs q 0)) in
@@ -106,7 +115,14 @@ two_bytes bs q l s c h g u v =
         let k : q + 1 < length bs = omega (arith, length-drop (q + 1) bs, ap length e) in
         let f : l ≡ d = g k ∙ ap (λ xs. get_or xs 0 0) (sym (drop_more bs (q + 1) 0 k) ∙ e) in
         let w : s + c ≤ length (bits_of 8 (get_or bs q 0) ++ bits_of 8 l) =
-        omega (arith, u, length-append (bits_of 8 (get_or bs q 0)) (bits_of 8 l), length-bits_of 8 (get_or bs q 0), length-bits_of 8 l) in
+        omega (
+          arith,
+          u,
+          length-append (bits_of 8 (get_or bs q 0)) (bits_of 8 l),
+          length-bits_of 8
+              (get_or bs q 0),
+          length-bits_of 8 l,
+        ) in
         ap (λ b. take c (drop s (bits_of 8 (get_or bs q 0) ++ (bits_of 8 b ++ byte_bits ds)))) (sym f)
         ∙ ap (λ xs. take c (drop s xs)) (sym (append_assoc (bits_of 8 (get_or bs q 0)) (bits_of 8 l) (byte_bits ds)))
         ∙ window s c (bits_of 8 (get_or bs q 0) ++ bits_of 8 l) (byte_bits ds) w
@@ -132,14 +148,17 @@ octet_is bs at c h l n m w e f g =
     let there : take c (drop s (byte_bits (drop q bs))) ≡ take c (drop at (byte_bits bs)) =
     ap (λ bits. take c (drop s bits)) (sym (drop-byte_bits q bs)) ∙ ap (take c) (drop-drop s (8 * q) (byte_bits bs))
     ∙ ap (λ i. take c (drop i (byte_bits bs))) (omega arith) in
-    high ∙ ap (λ bits. bits ++ bits_of (8 - c) 0) (cut ∙ ap (λ y. take c (drop s (bits_of 8 y ++ bits_of 8 l))) e ∙ sym both ∙ there)
+    high ∙ ap (λ bits. bits ++ bits_of (8 - c) 0)
+    (cut ∙ ap (λ y. take c (drop s (bits_of 8 y ++ bits_of 8 l))) e ∙ sym both ∙ there)
 
 -- the powers as they were computed
 pub octet_made : (bs : List ℕ) (at c h l p q r : ℕ) → 0 < c → c ≤ 8 → at + c ≤ 8 * length bs → h ≡ get_or bs (at / 8) 0
-    → (at / 8 + 1 < length bs → l ≡ get_or bs (at / 8 + 1) 0) → l < 256 → p ≡ 2 ^ (16 - at % 8 - c) → q ≡ 2 ^ c → r ≡ 2 ^ (8 - c)
+    → (at / 8 + 1 < length bs → l ≡ get_or bs (at / 8 + 1) 0) → l < 256 → p ≡ 2 ^ (16 - at % 8 - c) → q ≡ 2 ^ c
+    → r ≡ 2 ^ (8 - c)
     → bits_of 8 ((h * 256 + l) / p % q * r) ≡ octet bs at c
 octet_made bs at c h l p q r n m w e f g u v x =
-    ap (λ k. bits_of 8 ((h * 256 + l) / k % q * r)) u ∙ ap₂ (λ i j. bits_of 8 ((h * 256 + l) / 2 ^ (16 - at % 8 - c) % i * j)) v x
+    ap (λ k. bits_of 8 ((h * 256 + l) / k % q * r)) u
+    ∙ ap₂ (λ i j. bits_of 8 ((h * 256 + l) / 2 ^ (16 - at % 8 - c) % i * j)) v x
     ∙ octet_is bs at c h l n m w e f g
 
 pub octet_fits : (x c : ℕ) → c ≤ 8 → x % 2 ^ c * 2 ^ (8 - c) < 256
@@ -184,7 +203,8 @@ byte_cmp x y g h =
 -- the order of two octets, and then of what follows
 pub octets_step : (A B z : List Bool) (n c x y : ℕ) → x < 256 → y < 256 → n + c ≤ length A → n + c ≤ length B
     → bits_of 8 x ≡ take c (drop n A) ++ z → bits_of 8 y ≡ take c (drop n B) ++ z
-    → slice_cmp bool_cmp (drop n A) (drop n B) ≡ ordering_then (nat_cmp x y) (slice_cmp bool_cmp (drop (n + c) A) (drop (n + c) B))
+    → slice_cmp bool_cmp (drop n A) (drop n B) ≡ ordering_then (nat_cmp x y)
+    (slice_cmp bool_cmp (drop (n + c) A) (drop (n + c) B))
 octets_step A B z n c x y g h k l e f =
     let p : length (take c (drop n A)) ≡ c = length-take-le c (drop n A) (omega (arith, length-drop n A, k)) in
     let q : length (take c (drop n B)) ≡ c = length-take-le c (drop n B) (omega (arith, length-drop n B, l)) in
@@ -212,9 +232,11 @@ bits_end (a ∷ A) (b ∷ B) (suc n) h l m =
 byte_bits-append : (bs : List ℕ) (x : ℕ) → byte_bits (bs ++ x ∷ []) ≡ byte_bits bs ++ bits_of 8 x
 unfolding byte_bits
 byte_bits-append [] x = append-nil (bits_of 8 x)
-byte_bits-append (b ∷ bs) x = ap (λ r. bits_of 8 b ++ r) (byte_bits-append bs x) ∙ sym (append_assoc (bits_of 8 b) (byte_bits bs) (bits_of 8 x))
+byte_bits-append (b ∷ bs) x =
+    ap (λ r. bits_of 8 b ++ r) (byte_bits-append bs x) ∙ sym (append_assoc (bits_of 8 b) (byte_bits bs) (bits_of 8 x))
 
-padded : (m c r : ℕ) (D Z : List Bool) → c ≡ min m (length D) → r ≡ m - length D → take m (D ++ Z) ≡ take c D ++ take r Z
+padded : (m c r : ℕ) (D Z : List Bool) → c ≡ min m (length D) → r ≡ m - length D
+    → take m (D ++ Z) ≡ take c D ++ take r Z
 padded m zero r [] Z e f = ap (λ k. take k Z) (sym (f ∙ omega arith))
 padded m (suc c) r [] Z e f = absurd (omega (arith, e))
 padded zero zero zero (d ∷ D) Z e f = refl
@@ -228,29 +250,34 @@ zero_bits k r e = take-bits_of k r 8 0 (sym e) ∙ ap (bits_of k) (div-eq_of_lt 
 
 -- one more octet of a bit string behind whole ones
 pub one_more : (R : List Bool) (bs : List ℕ) (c x : ℕ) → 8 * length bs < length R → c ≡ min 8 (length R - 8 * length bs)
-    → byte_bits bs ≡ take (8 * length bs) (R ++ bits_of 8 0) → bits_of 8 x ≡ take c (drop (8 * length bs) R) ++ bits_of (8 - c) 0
+    → byte_bits bs ≡ take (8 * length bs) (R ++ bits_of 8 0)
+    → bits_of 8 x ≡ take c (drop (8 * length bs) R) ++ bits_of (8 - c) 0
     → byte_bits (bs ++ x ∷ []) ≡ take (8 * length bs + 8) (R ++ bits_of 8 0)
 one_more R bs c x l k e f =
     let n : ℕ = 8 * length bs in
     let p : take 8 (drop n R ++ bits_of 8 0) ≡ take c (drop n R) ++ take (8 - c) (bits_of 8 0) =
-    padded 8 c (8 - c) (drop n R) (bits_of 8 0) (omega (arith, k, length-drop n R)) (omega (arith, k, length-drop n R)) in
+    padded 8 c (8 - c) (drop n R) (bits_of 8 0) (omega (arith, k, length-drop n R))
+    (omega (arith, k, length-drop n R)) in
     byte_bits-append bs x
     ∙ ap₂ (λ u v. u ++ v) e (f ∙ ap (λ z. take c (drop n R) ++ z) (sym (zero_bits (8 - c) c (omega (arith, k)))) ∙ sym p
-      ∙ ap (take 8) (sym (drop-append-le n R (bits_of 8 0) (omega (arith, l)))))
+    ∙ ap (take 8) (sym (drop-append-le n R (bits_of 8 0) (omega (arith, l)))))
     ∙ sym (take-add n 8 (R ++ bits_of 8 0))
 
 all_zero : (k : ℕ) → IsTrue (list_all not (bits_of k 0))
 all_zero zero = refl
 all_zero (suc k) =
-    both_true (not (eqb (0 / 2 ^ k % 2) 1)) (list_all not (bits_of k 0)) (subst (λ q. IsTrue (not (eqb (q % 2) 1))) (sym (div-eq_of_lt (pow_pos k))) refl) (all_zero k)
+    both_true (not (eqb (0 / 2 ^ k % 2) 1)) (list_all not (bits_of k 0))
+    (subst (λ q. IsTrue (not (eqb (q % 2) 1))) (sym (div-eq_of_lt (pow_pos k))) refl) (all_zero k)
 
 -- bytes that hold a bit string and no more than they must
 abbrev pub Holds : List Bool → List ℕ → Type 0
-Holds R bs = (byte_bits bs ≡ take (8 * length bs) (R ++ bits_of 8 0)) × (length R ≤ 8 * length bs) × (8 * length bs < length R + 8)
+Holds R bs = (byte_bits bs ≡ take (8 * length bs) (R ++ bits_of 8 0)) × (length R ≤ 8 * length bs) ×
+    (8 * length bs < length R + 8)
 
 pub held_view : (R : List Bool) (b : Bits) → length R ≡ b.length → Holds R b.bytes → bits_view b ≡ R
 held_view R b e h =
-    ap (take b.length) h.0 ∙ take-take b.length (8 * length b.bytes) (R ++ bits_of 8 0) (omega (arith, e, h.1)) ∙ take_all R (bits_of 8 0) b.length e
+    ap (take b.length) h.0 ∙ take-take b.length (8 * length b.bytes) (R ++ bits_of 8 0) (omega (arith, e, h.1))
+    ∙ take_all R (bits_of 8 0) b.length e
 
 pub held_full : (R : List Bool) (b : Bits) → length R ≡ b.length → Holds R b.bytes → IsFull b
 unfolding bits_fit

@@ -24,10 +24,12 @@ cells c d = ordering_then (compare (view c.head) (view d.head)) (compare (view c
 -- module, site and arity, and then what was captured
 abbrev pub locals : Local → Local → Ordering
 locals f g =
-    ordering_then (heads f.module f.site.0 f.arity g.module g.site.0 g.arity) (compare_all (row f.captured.items) (row g.captured.items))
+    ordering_then (heads f.module f.site.0 f.arity g.module g.site.0 g.arity)
+    (compare_all (row f.captured.items) (row g.captured.items))
 
 -- two values of one kind; at others it says nothing
-abbrev pub same_kind : Value-F Value Cell Local MapPairs Row ValuePair → Value-F Value Cell Local MapPairs Row ValuePair → Ordering
+abbrev pub same_kind : Value-F Value Cell Local MapPairs Row ValuePair
+    → Value-F Value Cell Local MapPairs Row ValuePair → Ordering
 same_kind (form.Int a) (form.Int b) = int_cmp a b
 same_kind (form.Atom a) (form.Atom b) = slice_cmp nat_cmp a.value b.value
 same_kind (form.Cons c) (form.Cons d) = cells c.value d.value

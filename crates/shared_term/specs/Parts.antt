@@ -1,5 +1,6 @@
 -- The parts of a plain term, as calls give them: None where a term has no such part.
-use Rattle.std.specs.Prelude.{ℕ, ◌+◌, List, length, take, drop, slice_get, option_and_then, leb, Option, Some, None, if◌then◌else◌}
+use Rattle.std.specs.Prelude.{ℕ, ◌+◌, List, length, take, drop, slice_get, option_and_then, leb, Option, Some, None}
+use Rattle.std.specs.Prelude.{if◌then◌else◌}
 use Rattle.erl_term.specs.Term as T
 use Rattle.erl_term.specs.Term.{Term}
 use Rattle.erl_term.specs.Terms.{listed, value_at, put}

@@ -30,4 +30,5 @@ pub record IsMissing (k : Term) (ps : List ValuePair) (at : ℕ) : Type 0 where
 pub record IsRoom (k : Term) (ps : List ValuePair) (first last : ℕ) : Type 0 where
   pub first_within : first ≤ length ps
   pub last_within : last ≤ length ps
-  pub put_between : (v : Term) → put k v (pair_row ps) ≡ pairs (map pair_view (take first ps) ++ (k, v) ∷ map pair_view (drop last ps))
+  pub put_between : (v : Term)
+      → put k v (pair_row ps) ≡ pairs (map pair_view (take first ps) ++ (k, v) ∷ map pair_view (drop last ps))

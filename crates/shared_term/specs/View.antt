@@ -23,7 +23,8 @@ range_view b = take b.length (drop b.from (byte_bits b.bytes.value))
 abbrev pub is_within : BitRange → Bool
 is_within b = leb (b.from + b.length) (8 * length b.bytes.value)
 
--- the term of a value; right: in all its parts each depth that is kept is that of the term, and bits stand within their bytes
+-- the term of a value; right: in all its parts each depth that is kept is that of the term, and bits stand within
+-- their bytes
 pub record Reading : Type 0 where
   pub term : Plain.Term
   pub right : Bool
@@ -100,7 +101,8 @@ pair_step p = record { pair = (p.key.term, p.value.term); right = p.key.right &&
 -- how a value reads
 abbrev pub reading : Value → Reading
 reading =
-    fold-Value Reading Reading Reading MapReading RowReading PairReading value_step cell_step local_step map_step row_step
+    fold-Value Reading Reading Reading MapReading RowReading PairReading value_step cell_step local_step map_step
+    row_step
     pair_step
 
 -- the plain term that a value stands for

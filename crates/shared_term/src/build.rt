@@ -19,7 +19,14 @@ pub fn cons(alloc: Global, head: Value, tail: Value) -> Result<Value, NoMemory>
     ensures whole { IfOk result IsWhole }
 {
     let deepest = kept(max(head.depth(), tail.depth_as_rest()))?;
-    match Rc::new(alloc, Cell { deepest, head, tail }) {
+    match Rc::new(
+        alloc,
+        Cell {
+            deepest,
+            head,
+            tail,
+        },
+    ) {
         Ok(cell) => Ok(Value::Cons(cell)),
         Err(_) => Err(NoMemory),
     }
@@ -41,7 +48,13 @@ pub fn tuple(alloc: Global, items: List<Value>) -> Result<Value, NoMemory>
 
 /// The fun of a module, with its site, its arity and what it captured.
 #[tactic(auto, using(crate::proofs::Rows::row_fun, crate::proofs::Rows::row_fun_whole))]
-pub fn fun_value(alloc: Global, module: Name, site: SiteId, arity: u32, captured: List<Value>) -> Result<Value, NoMemory>
+pub fn fun_value(
+    alloc: Global,
+    module: Name,
+    site: SiteId,
+    arity: u32,
+    captured: List<Value>,
+) -> Result<Value, NoMemory>
     requires { All IsWhole captured }
     ensures fun { IfOk result (λ value. view value ≡ P.fun «module» site.0 arity (terms (map view captured))) }
     ensures whole { IfOk result IsWhole }
@@ -65,7 +78,14 @@ pub fn extern_value(alloc: Global, module: Name, name: Name, arity: u32) -> Resu
     ensures fun { IfOk result (λ value. view value ≡ P.extern «module» name arity) }
     ensures whole { IfOk result IsWhole }
 {
-    match Rc::new(alloc, External { module, name, arity }) {
+    match Rc::new(
+        alloc,
+        External {
+            module,
+            name,
+            arity,
+        },
+    ) {
         Ok(fun) => Ok(Value::Extern(fun)),
         Err(_) => Err(NoMemory),
     }

@@ -126,7 +126,11 @@ pub fn to_term(alloc: Global, value: &Value) -> Result<Term, NoMemory>
         Value::Map(map) => Ok(map_term(to_pairs(alloc, map.pairs.as_slice())?)),
         Value::Bits(range) => Ok(Term::Bits(own_bits(alloc, range)?)),
         Value::Fun(fun) => to_fun(alloc, fun),
-        Value::Extern(fun) => Ok(Term::Extern(fun.module.copy(alloc)?, fun.name.copy(alloc)?, fun.arity)),
+        Value::Extern(fun) => Ok(Term::Extern(
+            fun.module.copy(alloc)?,
+            fun.name.copy(alloc)?,
+            fun.arity,
+        )),
         Value::Pid(number) => Ok(Term::Pid(*number)),
         Value::Reference(number) => Ok(Term::Reference(*number)),
         Value::Port(number) => Ok(Term::Port(*number)),
@@ -158,10 +162,8 @@ fn to_list(alloc: Global, cell: &Cell) -> Result<Term, NoMemory>
 #[cycle(to_term)]
 fn to_fun(alloc: Global, fun: &Local) -> Result<Term, NoMemory>
     requires { All IsWhole fun.now.captured.items }
-    ensures same {
-        IfOk result
-        (λ term. Kept.view term ≡ P.fun fun.now.module fun.now.site.0 fun.now.arity (row fun.now.captured.items))
-    }
+    ensures same { IfOk result
+        (λ term. Kept.view term ≡ P.fun fun.now.module fun.now.site.0 fun.now.arity (row fun.now.captured.items)) }
     ensures well_formed { IfOk result IsWellFormed }
 {
     let captured = to_terms(alloc, fun.captured.items.as_slice())?;

@@ -62,7 +62,11 @@ pub fn put(alloc: Global, map: &Value, key: Value, value: Value) -> Result<Optio
     ensures whole { IfOk result (λ new. IfSome new IsWhole) }
 {
     match map {
-        Value::Map(map) => Ok(Some(put_pair(alloc, map.pairs.as_slice(), ValuePair { key, value })?)),
+        Value::Map(map) => Ok(Some(put_pair(
+            alloc,
+            map.pairs.as_slice(),
+            ValuePair { key, value },
+        )?)),
         Value::Int(_)
         | Value::Atom(_)
         | Value::Nil
@@ -81,9 +85,7 @@ pub fn put(alloc: Global, map: &Value, key: Value, value: Value) -> Result<Optio
 fn put_pair(alloc: Global, pairs: &[ValuePair], pair: ValuePair) -> Result<Value, NoMemory>
     requires pairs { AreMapPairs pairs.now }
     requires pair { IsPairWhole pair }
-    ensures map {
-        IfOk result (λ value. view value ≡ P.map (put (view pair.key) (view pair.value) (pair_row pairs.now)))
-    }
+    ensures map { IfOk result (λ new. view new ≡ P.map (put (view pair.key) (view pair.value) (pair_row pairs.now))) }
     ensures whole { IfOk result IsWhole }
 {
     let (first, last) = room(pairs, &pair.key);

@@ -24,7 +24,11 @@ fn octet(bytes: &[u8], at: u64, count: u64) -> u8
 {
     let first = (at / 8) as usize;
     let high = bytes[first] as u32;
-    let low = if first + 1 < bytes.len() { bytes[first + 1] as u32 } else { 0 };
+    let low = if first + 1 < bytes.len() {
+        bytes[first + 1] as u32
+    } else {
+        0
+    };
     let behind = 16 - at % 8 - count;
     let bits = (high * 256 + low) / power(behind) % power(count);
     (bits * power(8 - count)) as u8

@@ -122,7 +122,9 @@ fn compare_locals(a: &Local, b: &Local) -> Ordering
 fn compare_heads(a: &Local, b: &Local) -> Ordering
     ensures { result ≡ heads a.now.module a.now.site.0 a.now.arity b.now.module b.now.site.0 b.now.arity }
 {
-    a.module.compare(&b.module).then(a.site.0.cmp(&b.site.0).then(a.arity.cmp(&b.arity)))
+    a.module
+        .compare(&b.module)
+        .then(a.site.0.cmp(&b.site.0).then(a.arity.cmp(&b.arity)))
 }
 
 /// By number, then value by value.

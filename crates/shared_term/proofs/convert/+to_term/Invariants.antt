@@ -11,7 +11,8 @@ use Rattle.shared_term.proofs.convert.+to_term.Given as goal
 
 abbrev pub invariant-to_list-along : goal.invariant-to_list-along
 invariant-to_list-along l = record {
-  same : list_of (map Kept.view l.items) (P.cons (view l.at.head) (view l.at.tail)) ≡ P.cons (view l.fn.cell.head) (view l.fn.cell.tail);
+  same : list_of (map Kept.view l.items) (P.cons (view l.at.head) (view l.at.tail)) ≡ P.cons (view l.fn.cell.head)
+      (view l.fn.cell.tail);
   well_formed : All IsWellFormed l.items;
   whole : IsCellWhole l.at;
   size : size-Cell l.at ≤ size-Cell l.fn.cell;

@@ -4,4 +4,5 @@ use Rattle.shared_term.specs.View.{pair_row}
 use Rattle.shared_term.proofs.maps.deepest_of_pairs.Given as goal
 
 abbrev pub invariant-loop-pair : goal.invariant-loop-pair
-invariant-loop-pair l = max l.deepest (deepest_pair (pair_row (drop l.pair-index l.pairs))) ≡ deepest_pair (pair_row l.pairs)
+invariant-loop-pair l =
+    max l.deepest (deepest_pair (pair_row (drop l.pair-index l.pairs))) ≡ deepest_pair (pair_row l.pairs)

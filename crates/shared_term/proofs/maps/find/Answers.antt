@@ -36,7 +36,8 @@ returns-in-Equal-clause-found c =
     let here : stands k ps m ≡ Equal = stands_at k ps m c.index-pairs-middle.result within ∙ sym c.in-Equal.ensures in
     record {
       within = within;
-      below = λ i l. greater_before k ps c.requires.pairs.rising i m (λ e. let f : Equal ≡ Less = sym here ∙ e in absurd (cc)) l;
+      below = λ i l. greater_before k ps c.requires.pairs.rising i m
+          (λ e. let f : Equal ≡ Less = sym here ∙ e in absurd (cc)) l;
       here = here;
     }
 
@@ -46,12 +47,14 @@ loop-low-preserved c =
     let ps = c.args.pairs.now in
     let m = c.loop-low.low + (c.loop-low.high - c.loop-low.low) / 2 in
     let within : m < length ps = omega arith in
-    let here : stands k ps m ≡ Greater = stands_at k ps m c.index-pairs-middle.result within ∙ sym c.in-Greater.ensures in
+    let here : stands k ps m ≡ Greater =
+    stands_at k ps m c.index-pairs-middle.result within ∙ sym c.in-Greater.ensures in
     record {
       ordered = omega arith;
       within = omega arith;
       below =
           below_more (λ i. stands k ps i ≡ Greater) m
-          (λ i l. greater_before k ps c.requires.pairs.rising i m (λ e. let f : Greater ≡ Less = sym here ∙ e in absurd (cc)) l) here;
+          (λ i l. greater_before k ps c.requires.pairs.rising i m
+          (λ e. let f : Greater ≡ Less = sym here ∙ e in absurd (cc)) l) here;
       above = c.loop-low.invariant.above;
     }

@@ -8,4 +8,5 @@ returns-in-Ok-clause-found c =
     sym (value_found (view c.args.key.now) c.args.pairs.now c.in-Ok.at c.index-pairs-at.result c.in-Ok.ensures.found)
 
 pub returns-in-Err-clause-found : goal.returns-in-Err-clause-found
-returns-in-Err-clause-found c = sym (value_missing (view c.args.key.now) c.args.pairs.now c.in-Err.field-0 c.in-Err.ensures.missing)
+returns-in-Err-clause-found c =
+    sym (value_missing (view c.args.key.now) c.args.pairs.now c.in-Err.field-0 c.in-Err.ensures.missing)

@@ -9,4 +9,6 @@ put_pair-requires-clause-pairs c = map_whole _ _ _ _ c.in-Map.is c.deref.ensures
 
 pub returns-in_ok-put_pair-in-Map-clause-put : goal.returns-in_ok-put_pair-in-Map-clause-put
 returns-in_ok-put_pair-in-Map-clause-put c =
-    ap Some c.in_ok-put_pair-in-Map.ensures.map ∙ sym (ap (put_of (view c.args.key) (view c.args.value)) (map_reads _ _ _ _ c.in-Map.is c.deref.ensures c.as_slice.ensures))
+    ap Some c.in_ok-put_pair-in-Map.ensures.map
+    ∙ sym (ap (put_of (view c.args.key) (view c.args.value))
+    (map_reads _ _ _ _ c.in-Map.is c.deref.ensures c.as_slice.ensures))

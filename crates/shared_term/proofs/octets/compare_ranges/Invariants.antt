@@ -7,7 +7,8 @@ use Rattle.shared_term.proofs.octets.compare_ranges.Given as goal
 abbrev pub invariant-loop-done : goal.invariant-loop-done
 invariant-loop-done l = record {
   within : l.done ≤ l.common;
-  same : slice_cmp bool_cmp (drop l.done (range_view l.a)) (drop l.done (range_view l.b)) ≡ slice_cmp bool_cmp (range_view l.a) (range_view l.b);
+  same : slice_cmp bool_cmp (drop l.done (range_view l.a)) (drop l.done (range_view l.b)) ≡ slice_cmp bool_cmp
+      (range_view l.a) (range_view l.b);
 }
 
 abbrev pub decreases-loop-done : goal.decreases-loop-done

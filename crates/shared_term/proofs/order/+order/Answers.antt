@@ -36,15 +36,19 @@ compare_cells-returns-in_default-2 t c =
 
 pub compare_same_kind-compare_cells-requires : goal.compare_same_kind-compare_cells-requires
 compare_same_kind-compare_cells-requires t c =
-    let n : IsCellWhole c.deref-in-Cons-Cons.result.now = cell_whole _ _ _ c.in-Cons-Cons.is-0 c.deref-in-Cons-Cons.ensures c.requires.first in
-    let m : IsCellWhole c.deref-in-Cons-Cons-2.result.now = cell_whole _ _ _ c.in-Cons-Cons.is-1 c.deref-in-Cons-Cons-2.ensures c.requires.second in
+    let n : IsCellWhole c.deref-in-Cons-Cons.result.now =
+    cell_whole _ _ _ c.in-Cons-Cons.is-0 c.deref-in-Cons-Cons.ensures c.requires.first in
+    let m : IsCellWhole c.deref-in-Cons-Cons-2.result.now =
+    cell_whole _ _ _ c.in-Cons-Cons.is-1 c.deref-in-Cons-Cons-2.ensures c.requires.second in
     search (rules, the_lemmas)
 
 pub compare_same_kind-compare_sized-requires : goal.compare_same_kind-compare_sized-requires
 compare_same_kind-compare_sized-requires t c =
-    let n : All IsWhole c.as_slice.result.now = tuple_whole _ _ _ _ c.in-Tuple-Tuple.is-0 c.deref-in-Tuple-Tuple.ensures c.as_slice.ensures c.requires.first in
+    let n : All IsWhole c.as_slice.result.now =
+    tuple_whole _ _ _ _ c.in-Tuple-Tuple.is-0 c.deref-in-Tuple-Tuple.ensures c.as_slice.ensures c.requires.first in
     let m : All IsWhole c.as_slice-in-Tuple-Tuple.result.now =
-    tuple_whole _ _ _ _ c.in-Tuple-Tuple.is-1 c.deref-in-Tuple-Tuple-2.ensures c.as_slice-in-Tuple-Tuple.ensures c.requires.second in
+    tuple_whole _ _ _ _ c.in-Tuple-Tuple.is-1 c.deref-in-Tuple-Tuple-2.ensures c.as_slice-in-Tuple-Tuple.ensures
+    c.requires.second in
     search (rules, the_lemmas)
 
 pub compare_same_kind-compare_maps-requires : goal.compare_same_kind-compare_maps-requires
@@ -52,7 +56,8 @@ compare_same_kind-compare_maps-requires t c =
     let n : AreMapPairs c.as_slice-in-Map-Map.result.now =
     map_whole _ _ _ _ c.in-Map-Map.is-0 c.deref-in-Map-Map.ensures c.as_slice-in-Map-Map.ensures c.requires.first in
     let m : AreMapPairs c.as_slice-in-Map-Map-2.result.now =
-    map_whole _ _ _ _ c.in-Map-Map.is-1 c.deref-in-Map-Map-2.ensures c.as_slice-in-Map-Map-2.ensures c.requires.second in
+    map_whole _ _ _ _ c.in-Map-Map.is-1 c.deref-in-Map-Map-2.ensures c.as_slice-in-Map-Map-2.ensures c.requires.second
+    in
     let o : All IsPairWhole c.as_slice-in-Map-Map.result.now = n.parts in
     let p : All IsPairWhole c.as_slice-in-Map-Map-2.result.now = m.parts in
     search (rules, the_lemmas)
@@ -68,7 +73,8 @@ compare_same_kind-compare_locals-requires t c =
 pub compare_cells-along-preserved : goal.compare_cells-along-preserved
 compare_cells-along-preserved t c = record {
   same =
-      cells_step c.along.x.now c.along.y.now _ _ _ _ c.in-Cons-Cons.is-0 c.in-Cons-Cons.is-1 c.deref-x.ensures c.deref-y.ensures c.in-Equal.ensures
+      cells_step c.along.x.now c.along.y.now _ _ _ _ c.in-Cons-Cons.is-0 c.in-Cons-Cons.is-1 c.deref-x.ensures
+      c.deref-y.ensures c.in-Equal.ensures
       ∙ c.along.invariant.same;
   first = cell_whole c.along.x.now.tail _ _ c.in-Cons-Cons.is-0 c.deref-x.ensures c.along.invariant.first.tail;
   second = cell_whole c.along.y.now.tail _ _ c.in-Cons-Cons.is-1 c.deref-y.ensures c.along.invariant.second.tail;

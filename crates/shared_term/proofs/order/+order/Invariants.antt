@@ -15,10 +15,13 @@ invariant-compare_cells-along l = record {
 }
 
 abbrev pub invariant-compare_items-loop-i : goal.invariant-compare_items-loop-i
-invariant-compare_items-loop-i l = compare_all (row (drop l.i l.xs)) (row (drop l.i l.ys)) ≡ compare_all (row l.xs) (row l.ys)
+invariant-compare_items-loop-i l =
+    compare_all (row (drop l.i l.xs)) (row (drop l.i l.ys)) ≡ compare_all (row l.xs) (row l.ys)
 
 abbrev pub invariant-compare_keys-loop-i : goal.invariant-compare_keys-loop-i
-invariant-compare_keys-loop-i l = compare_keys (pair_row (drop l.i l.ps)) (pair_row (drop l.i l.qs)) ≡ compare_keys (pair_row l.ps) (pair_row l.qs)
+invariant-compare_keys-loop-i l =
+    compare_keys (pair_row (drop l.i l.ps)) (pair_row (drop l.i l.qs)) ≡ compare_keys (pair_row l.ps) (pair_row l.qs)
 
 abbrev pub invariant-compare_values-loop-i : goal.invariant-compare_values-loop-i
-invariant-compare_values-loop-i l = compare_values (pair_row (drop l.i l.ps)) (pair_row (drop l.i l.qs)) ≡ compare_values (pair_row l.ps) (pair_row l.qs)
+invariant-compare_values-loop-i l = compare_values (pair_row (drop l.i l.ps))
+    (pair_row (drop l.i l.qs)) ≡ compare_values (pair_row l.ps) (pair_row l.qs)

@@ -9,4 +9,5 @@ get_pair-requires-clause-pairs c = map_whole _ _ _ _ c.in-Map.is c.deref.ensures
 
 pub returns-in-Map-clause-found : goal.returns-in-Map-clause-found
 returns-in-Map-clause-found c =
-    c.get_pair.ensures.found ∙ sym (ap (value_of (view c.args.key.now)) (map_reads _ _ _ _ c.in-Map.is c.deref.ensures c.as_slice.ensures))
+    c.get_pair.ensures.found
+    ∙ sym (ap (value_of (view c.args.key.now)) (map_reads _ _ _ _ c.in-Map.is c.deref.ensures c.as_slice.ensures))
