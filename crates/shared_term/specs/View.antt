@@ -29,15 +29,17 @@ pub record Reading : Type 0 where
   pub term : Plain.Term
   pub right : Bool
 
--- the same of values in a row, of a pair, and of the pairs of a map
+-- the same of values in a row
 pub record RowReading : Type 0 where
   pub terms : List Plain.Term
   pub right : Bool
 
+-- of a key and its value
 pub record PairReading : Type 0 where
   pub pair : Plain.Term × Plain.Term
   pub right : Bool
 
+-- and of the pairs of a map
 pub record MapReading : Type 0 where
   pub pairs : List (Plain.Term × Plain.Term)
   pub right : Bool
