@@ -19,6 +19,7 @@ mod print;
 mod row;
 mod terms;
 mod tokens;
+mod values;
 
 use std::fs;
 use std::test::Fail;
@@ -30,6 +31,7 @@ enum Kind {
     Forms,
     Print,
     Calls,
+    Values,
 }
 
 fn show(rt: &HostRuntime, kind: Kind, row: &str) -> Result<(), Fail> {
@@ -39,6 +41,7 @@ fn show(rt: &HostRuntime, kind: Kind, row: &str) -> Result<(), Fail> {
         Kind::Forms => forms::show(rt, row),
         Kind::Print => print::show(rt, row),
         Kind::Calls => calls::show(rt, row),
+        Kind::Values => values::show(rt, row),
     }
 }
 
@@ -58,5 +61,6 @@ fn main(rt: HostRuntime) -> Result<(), Fail> {
     show_all(&rt, Kind::Terms, "terms.rows")?;
     show_all(&rt, Kind::Forms, "forms.rows")?;
     show_all(&rt, Kind::Print, "print.rows")?;
-    show_all(&rt, Kind::Calls, "calls.rows")
+    show_all(&rt, Kind::Calls, "calls.rows")?;
+    show_all(&rt, Kind::Values, "values.rows")
 }
