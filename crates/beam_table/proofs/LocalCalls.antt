@@ -1,9 +1,10 @@
 -- A local call that is not bad enters one function.
 use Rattle.std.proofs.Common.{inl, inr, ℕ, List, take, Bool, true, false, Option, Some, None, refl}
 use Rattle.step_machine.specs.Steps.{bad}
+use Rattle.step_machine.specs.Frames.{in_frame}
 use Rattle.beam_table.specs.Code.{AsmModule}
 use Rattle.beam_table.specs.MachineState.{Cell, Activation, Machine}
-use Rattle.beam_table.specs.GeneralRules.{Effect, needs, in_frame, if_some, leaves, entry_at}
+use Rattle.beam_table.specs.GeneralRules.{Effect, needs, if_some, leaves, entry_at}
 use Rattle.beam_table.specs.Calls.{suspended, enters, function_at, do_call_only}
 use Rattle.beam_table.specs.InstructionStep.{act}
 use Rattle.beam_table.specs.StepFacts.{EntersOne, Deeper, LocalCallsEnterOne}
@@ -16,7 +17,8 @@ module _ (tail : Bool) (cs : List Activation) where
   one_needs true s h = h
   one_needs false s h = inl refl
 
-  one_frame : (o : Option (List Cell)) (k : List Cell → Effect) → ((ys : List Cell) → One (k ys)) → One (in_frame o k)
+  one_frame : (o : Option (List Cell)) (k : List Cell → Effect) → ((ys : List Cell) → One (k ys))
+      → One (in_frame bad o k)
   one_frame None k h = inl refl
   one_frame (Some ys) k h = h ys
 

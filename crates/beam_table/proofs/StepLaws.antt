@@ -4,14 +4,14 @@ use Rattle.erl_term.specs.Segments.{segment_value}
 use Rattle.erl_term.specs.Term.{Term, Class}
 use Rattle.world_model.specs.Run.{Entry, raises}
 use Rattle.world_model.specs.World.{Reply, asked}
-use Rattle.step_machine.specs.Frames.{rest_of}
+use Rattle.step_machine.specs.Frames.{rest_of, no_frame}
 use Rattle.step_machine.specs.Steps.{Event, happened, entered, examined, sub_binary, goes, ends, bad, notes, asks, Ran, perform, run, sites}
 use Rattle.beam_table.specs.StepFacts.{Entered, Fine, ByEvents, Untagged, RaiseUnwinds}
 use Rattle.beam_table.proofs.Walk.{step_q}
 use Rattle.beam_table.specs.Binaries.{starts, takes_segment, number_shape, shape, write_sub, context_in, read_segments, creates}
 use Rattle.beam_table.specs.Code.{Insn, allocate, allocate_heap, test_heap, put_map_assoc, put_map_exact, bs_start_match4, bs_get_integer2, bs_get_binary2, bs_get_tail, bs_get_position, bs_create_bin, AsmModule}
 use Rattle.beam_table.specs.Data.{read_pairs, put_in}
-use Rattle.beam_table.specs.GeneralRules.{is_set, all_set, read, read_cell, write, write_term, needs, no_frame, outside_window, collects, tag_of, lands, unwinds, frame_set, answers, Effect}
+use Rattle.beam_table.specs.GeneralRules.{is_set, all_set, read, read_cell, write, write_term, needs, outside_window, collects, tag_of, lands, unwinds, frame_set, answers, Effect}
 use Rattle.beam_table.specs.Inbox.{inbox}
 use Rattle.beam_table.specs.InstructionStep.{act, step}
 use Rattle.beam_table.specs.MachineState.{Kind, Cell, unset, position, Activation, Machine}
@@ -131,9 +131,9 @@ cut_for (Some n) w m = cut n w m
 
 pub act_cut : (a : AsmModule) (i : Insn) (w : ℕ) (m : Machine) → act a i m ≡ act a i (cut_for (live_of i) w m)
 unfolding act
-act_cut a (allocate n k) w m = ap (λ s. outside_window m (no_frame m s))
+act_cut a (allocate n k) w m = ap (λ s. outside_window m (no_frame bad m.frame s))
     (collects_cut k w m λ u. goes (record u { frame = Some (replicate n unset); room = 0 }))
-act_cut a (allocate_heap n v k) w m = ap (λ s. outside_window m (no_frame m s))
+act_cut a (allocate_heap n v k) w m = ap (λ s. outside_window m (no_frame bad m.frame s))
     (collects_cut k w m λ u. goes (record u { frame = Some (replicate n unset); room = v }))
 act_cut a (test_heap v k) w m = collects_cut k w m λ u. goes (record u { room = v })
 act_cut a (put_map_assoc s d k ps) w m =

@@ -12,7 +12,7 @@ use Rattle.world_model.specs.Receive.{Timeout, now, in', wrong, new_or}
 use Rattle.world_model.specs.Requests.{is_send}
 use Rattle.world_model.specs.Run.{Entry, Outcome}
 use Rattle.world_model.specs.World.{taken, Request, Reply, Happening, Message, Delay, forever, millis}
-use Rattle.step_machine.specs.Frames.{MatchContext, is_tag, rest_of}
+use Rattle.step_machine.specs.Frames.{MatchContext, is_tag, rest_of, with_cell, in_frame, no_frame}
 use Rattle.step_machine.specs.Steps.{happened, entered, examined, sub_binary, goes, ends, bad, notes, asks}
 use Rattle.beam_table.specs.Code
 use Rattle.beam_table.specs.Binaries.{shape, number_shape, do_get_integer, if_context, if_position, context_in, write_sub, read_segments, or_no_match, starts, takes, takes_segment, creates}
@@ -20,7 +20,7 @@ use Rattle.beam_table.specs.Calls.{suspended, frame_unless, enters, function_at,
 use Rattle.bif_table.specs.TermTests.{Comparison}
 use Rattle.beam_table.specs.Code.{Reg, x_reg, y_reg, Source, reg, Extern, Flags, Segment, Insn, label, func_info, move, swap, init_yregs, allocate, allocate_heap, deallocate, trim, test_heap, return, put_list, put_tuple2, make_fun3, put_map_assoc, put_map_exact, get_list, get_hd, get_tl, get_tuple_element, get_map_elements, has_map_fields, jump, test, compares, test_arity, is_tagged_tuple, select_val, select_tuple_arity, bif, gc_bif, call, call_only, call_last, call_ext, call_ext_only, call_ext_last, call_fun, apply, apply_last, send, build_stacktrace, raise, badmatch, case_end, try_case_end, if_end, try, catch, try_end, try_case, catch_end, loop_rec, remove_message, loop_rec_end, wait, wait_timeout, timeout, recv_marker_reserve, recv_marker_bind, recv_marker_use, recv_marker_clear, bs_start_match4, bs_get_integer2, bs_get_binary2, bs_skip_bits2, bs_test_tail2, bs_test_unit, bs_get_tail, bs_get_position, bs_set_position, bs_create_bin, AsmFun, AsmModule}
 use Rattle.beam_table.specs.Data.{do_init, do_allocate, drops, if_cons, if_tuple, if_map, read_pairs, write_all, firsts, seconds, put_in, do_put_map, all_or_jumps, do_get_elements}
-use Rattle.beam_table.specs.GeneralRules.{tag_in, needs, in_frame, no_frame, if_some, read_reg, read_cell, if_term, read, read_all, arguments, outside_window, write, write_term, alone, collects, leaves, builds, tag_of, entry_at, jumps, lands, unwinds, returns_to, with_cell, or_jumps, or_raises, answers, Effect, raising, with_arrivals, asking}
+use Rattle.beam_table.specs.GeneralRules.{tag_in, needs, if_some, read_reg, read_cell, if_term, read, read_all, arguments, outside_window, write, write_term, alone, collects, leaves, builds, tag_of, entry_at, jumps, lands, unwinds, returns_to, or_jumps, or_raises, answers, Effect, raising, with_arrivals, asking}
 use Rattle.beam_table.specs.Handlers.{do_tag, if_tag, ends_tag, do_try_case, if_catch, caught, do_catch_end, do_stacktrace, raises_again, fails}
 use Rattle.beam_table.specs.Inbox.{Inbox, inbox, arrived, taken_out}
 use Rattle.beam_table.specs.InstructionStep.{act, step, step_at, past_labels}
@@ -66,7 +66,7 @@ module _ (a : AsmModule) (cs : List Activation) (Q : Effect → Inbox → Type 0
   if_needs false s h = qbad
 
   frame_q : {w : Inbox} → (o : Option (List Cell)) (k : List Cell → Effect) → ((ys : List Cell) → Q (k ys) w)
-      → Q (in_frame o k) w
+      → Q (in_frame bad o k) w
   frame_q None k h = qbad
   frame_q (Some ys) k h = h ys
 
@@ -78,7 +78,7 @@ module _ (a : AsmModule) (cs : List Activation) (Q : Effect → Inbox → Type 0
   none_q None s h = h
   none_q (Some w) s h = qbad
 
-  no_frame_q : (m : Machine) (s : Effect) → Q s (inbox m) → Q (no_frame m s) (inbox m)
+  no_frame_q : (m : Machine) (s : Effect) → Q s (inbox m) → Q (no_frame bad m.frame s) (inbox m)
   no_frame_q m s h = none_q m.frame s h
 
   outside_q : (m : Machine) (s : Effect) → Q s (inbox m) → Q (outside_window m s) (inbox m)
@@ -122,12 +122,12 @@ module _ (a : AsmModule) (cs : List Activation) (Q : Effect → Inbox → Type 0
   write_q : (m : Machine) (r : Reg) (c : Cell) (k : Machine → Effect) → At m
       → ((u : Machine) → At u → Q (k u) (inbox u)) → Q (write m r c k) (inbox m)
   write_q m (x_reg n) c k e h = h _ e
-  write_q m (y_reg n) c k e h = outside_q m (in_frame m.frame λ ys. if_some (slice_get ys n) λ old. put ys old)
+  write_q m (y_reg n) c k e h = outside_q m (in_frame bad m.frame λ ys. if_some (slice_get ys n) λ old. put ys old)
       (frame_q m.frame _ λ ys. some_q (slice_get ys n) (λ old. put ys old) λ old. if_needs (not (is_tag tag_in old)) _
       (h (with_frame ys) e))
     where
       with_frame : List Cell → Machine
-      with_frame ys = record m { frame = Some (with_cell n c ys) }
+      with_frame ys = record m { frame = Some (with_cell unset n c ys) }
 
       put : List Cell → Cell → Effect
       put ys old = needs (not (is_tag tag_in old)) (k (with_frame ys))

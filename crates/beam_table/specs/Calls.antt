@@ -10,10 +10,11 @@ use Rattle.world_model.specs.World as W
 use Rattle.world_model.specs.RemoteCalls.{badarity}
 use Rattle.world_model.specs.Requests.{is_send}
 use Rattle.world_model.specs.World.{Reply}
-use Rattle.step_machine.specs.Steps.{goes, notes, entered}
+use Rattle.step_machine.specs.Steps.{goes, bad, notes, entered}
+use Rattle.step_machine.specs.Frames.{in_frame, no_frame}
 use Rattle.beam_table.specs.Code.{Reg, x_reg, Source, reg, Extern, AsmFun, AsmModule}
 use Rattle.beam_table.specs.MachineState.{Cell, Machine, unset}
-use Rattle.beam_table.specs.GeneralRules.{Effect, needs, in_frame, no_frame, if_some, if_term, read, read_all, arguments, cells, outside_window, write_term, alone, leaves, builds, entry_at, raising, asking, returns_to}
+use Rattle.beam_table.specs.GeneralRules.{Effect, needs, if_some, if_term, read, read_all, arguments, cells, outside_window, write_term, alone, leaves, builds, entry_at, raising, asking, returns_to}
 
 -- the running activation waits above the one that comes
 abbrev pub suspended : Machine → Machine
@@ -22,7 +23,7 @@ suspended m = record m { callers = record { frame = m.frame; back = m.code } ∷
 -- needs a frame but in this case
 abbrev pub frame_unless : Bool → Machine → Effect → Effect
 frame_unless true m a = a
-frame_unless false m a = in_frame m.frame λ ys. a
+frame_unless false m a = in_frame bad m.frame λ ys. a
 
 module _ (a : AsmModule) where
   -- enters function s with these X registers and nothing else
@@ -37,11 +38,11 @@ module _ (a : AsmModule) where
   -- {call,A,L}: needs a frame, leaves, and enters the function of arity A at L in a new activation
   abbrev pub do_call : ℕ → ℕ → Machine → Effect
   do_call n l m =
-      in_frame m.frame λ ys. leaves n m λ u. function_at l n λ s f. enters false s f (take n u.xs) (suspended u)
+      in_frame bad m.frame λ ys. leaves n m λ u. function_at l n λ s f. enters false s f (take n u.xs) (suspended u)
 
   -- {call_only,A,L}: needs no frame; the same in place of this activation
   abbrev pub do_call_only : ℕ → ℕ → Machine → Effect
-  do_call_only n l m = no_frame m (leaves n m λ u. function_at l n λ s f. enters true s f (take n u.xs) u)
+  do_call_only n l m = no_frame bad m.frame (leaves n m λ u. function_at l n λ s f. enters true s f (take n u.xs) u)
 
   -- a reply to a call: its term, or a raise of it
   abbrev pub replied : Reply → Machine → (Term → Machine → Effect) → Effect
@@ -111,16 +112,16 @@ module _ (a : AsmModule) where
   -- {call_ext_only,A,{extfunc,M,F,A}}: needs no frame; answers, and goes on as return does
   unfoldable pub do_call_ext_only : ℕ → Extern → Machine → Effect
   unfolding call_any
-  do_call_ext_only n e m = no_frame m (call_any n e m returns)
+  do_call_ext_only n e m = no_frame bad m.frame (call_any n e m returns)
 
   -- return: needs no frame, and a term in x0; back to the caller with it alone, or the end
   abbrev pub do_return : Machine → Effect
-  do_return m = outside_window m (no_frame m (if_term (get_or m.xs 0 unset) λ t. returns t m))
+  do_return m = outside_window m (no_frame bad m.frame (if_term (get_or m.xs 0 unset) λ t. returns t m))
 
   -- send: needs a frame, leaves, and sends x1 to x0; the message is alone in x0
   abbrev pub do_send : Machine → Effect
   do_send m =
-      in_frame m.frame λ ys. leaves 2 m λ u. read u (reg (x_reg 0)) λ to. read u (reg (x_reg 1)) λ message.
+      in_frame bad m.frame λ ys. leaves 2 m λ u. read u (reg (x_reg 0)) λ to. read u (reg (x_reg 1)) λ message.
       sends to message u alone
 
   -- Funs.
@@ -160,7 +161,8 @@ module _ (a : AsmModule) where
   -- {call_fun,A}: needs a frame; the fun is in x(A), and terms are in x0 to x(A)
   abbrev pub do_call_fun : ℕ → Machine → Effect
   do_call_fun n m =
-      in_frame m.frame λ ys. leaves (suc n) m λ u. arguments n u.xs λ ts. read u (reg (x_reg n)) λ t. applies t ts u
+      in_frame bad m.frame λ ys. leaves (suc n) m λ u. arguments n u.xs λ ts. read u (reg (x_reg n)) λ t.
+      applies t ts u
 
   -- a call by name with the first n X registers, which are looked at only where both names are atoms
   unfoldable pub calls_named : Term → Term → ℕ → Machine → (Term → Machine → Effect) → Effect

@@ -5,11 +5,11 @@ use Rattle.erl_term.specs.Term.{Term, Pairs}
 use Rattle.erl_term.specs.TermOrder.{same_term}
 use Rattle.erl_term.specs.Terms.{terms, listed, value_at, is_there, tagged, put}
 use Rattle.bif_table.specs.BuiltinAnswer.{Answer, value, raised}
-use Rattle.step_machine.specs.Frames.{is_tag, no_tags}
+use Rattle.step_machine.specs.Frames.{is_tag, no_tags, in_frame, no_frame}
 use Rattle.step_machine.specs.Steps.{goes, bad}
 use Rattle.beam_table.specs.Code.{Reg, y_reg, Source, AsmModule}
 use Rattle.beam_table.specs.MachineState.{Cell, Machine, unset, killed}
-use Rattle.beam_table.specs.GeneralRules.{Effect, needs, is_set, tag_in, in_frame, no_frame, if_some, read_reg, read_cell, read, read_all, outside_window, write, write_term, collects, builds, jumps, answers}
+use Rattle.beam_table.specs.GeneralRules.{Effect, needs, is_set, tag_in, if_some, read_reg, read_cell, read, read_all, outside_window, write, write_term, collects, builds, jumps, answers}
 
 -- Moves.
 
@@ -37,17 +37,18 @@ do_init (n ∷ ns) m = write m (y_reg n) killed λ u. do_init ns u
 -- for W words
 abbrev pub do_allocate : ℕ → ℕ → ℕ → Machine → Effect
 do_allocate n w live m =
-    outside_window m (no_frame m (collects live m λ u. goes (record u { frame = Some (replicate n unset); room = w })))
+    outside_window m (no_frame bad m.frame (collects live m λ u.
+    goes (record u { frame = Some (replicate n unset); room = w })))
 
 -- drops a frame of n slots without a tag
 abbrev pub drops : ℕ → Machine → (Machine → Effect) → Effect
 drops n m k =
     outside_window m
-    (in_frame m.frame λ ys. needs (eqb (length ys) n && no_tags tag_in ys) (k (record m { frame = None })))
+    (in_frame bad m.frame λ ys. needs (eqb (length ys) n && no_tags tag_in ys) (k (record m { frame = None })))
 
 -- {trim,N,R}: of N + R slots the lowest N, which hold no tag, go; the others move down
 abbrev pub do_trim : ℕ → ℕ → Machine → Effect
-do_trim n r m = outside_window m (in_frame m.frame λ ys.
+do_trim n r m = outside_window m (in_frame bad m.frame λ ys.
     needs (eqb (length ys) (n + r) && no_tags tag_in (take n ys)) (goes (record m { frame = Some (drop n ys) })))
 
 -- {test_heap,W,Live}: collects; then room for W words

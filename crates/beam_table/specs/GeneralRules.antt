@@ -6,7 +6,7 @@ use Rattle.erl_term.specs.Term.{Term, Class}
 use Rattle.erl_term.specs.Terms.{class_word}
 use Rattle.world_model.specs.Run.{gives, raises, numbered}
 use Rattle.world_model.specs.World.{Request, Reply}
-use Rattle.step_machine.specs.Frames.{is_tag, lowest_tag}
+use Rattle.step_machine.specs.Frames.{is_tag, lowest_tag, with_cell, in_frame}
 use Rattle.step_machine.specs.Steps.{Stepped, goes, ends, bad, asks}
 use Rattle.beam_table.specs.Code as C
 use Rattle.beam_table.specs.Code.{Reg, x_reg, y_reg, Source, reg, Insn, label, func_info, AsmFun, AsmModule}
@@ -47,22 +47,6 @@ none_unset [] = true
 none_unset (unset ∷ cs) = false
 none_unset (c ∷ cs) = none_unset cs
 
--- the cells with one written anew; those between are unset
-abbrev pub with_cell : ℕ → Cell → List Cell → List Cell
-with_cell zero c [] = c ∷ []
-with_cell zero c (d ∷ ds) = c ∷ ds
-with_cell (suc n) c [] = unset ∷ with_cell n c []
-with_cell (suc n) c (d ∷ ds) = d ∷ with_cell n c ds
-
--- a frame is wanted
-abbrev pub in_frame : Option (List Cell) → (List Cell → Effect) → Effect
-in_frame None k = bad
-in_frame (Some ys) k = k ys
-
--- no frame is wanted
-abbrev pub no_frame : Machine → Effect → Effect
-no_frame m a = elim m.frame [ None ↦ a | Some ys ↦ bad ]
-
 -- Reading and writing.
 
 -- this is wanted
@@ -73,7 +57,7 @@ if_some (Some a) k = k a
 -- a Y register needs a frame with that slot
 abbrev pub read_reg : Machine → Reg → (Cell → Effect) → Effect
 read_reg m (x_reg n) k = k (get_or m.xs n unset)
-read_reg m (y_reg n) k = in_frame m.frame λ ys. if_some (slice_get ys n) k
+read_reg m (y_reg n) k = in_frame bad m.frame λ ys. if_some (slice_get ys n) k
 
 -- what an operand holds, of any kind
 abbrev pub read_cell : Machine → Source → (Cell → Effect) → Effect
@@ -114,10 +98,10 @@ outside_window m a = elim m.window [ None ↦ a | Some w ↦ bad ]
 
 -- a slot is written outside the window alone, and never over a tag
 abbrev pub write : Machine → Reg → Cell → (Machine → Effect) → Effect
-write m (x_reg n) c k = k (record m { xs = with_cell n c m.xs })
+write m (x_reg n) c k = k (record m { xs = with_cell unset n c m.xs })
 write m (y_reg n) c k =
-    outside_window m (in_frame m.frame λ ys. if_some (slice_get ys n) λ old.
-    needs (not (is_tag tag_in old)) (k (record m { frame = Some (with_cell n c ys) })))
+    outside_window m (in_frame bad m.frame λ ys. if_some (slice_get ys n) λ old.
+    needs (not (is_tag tag_in old)) (k (record m { frame = Some (with_cell unset n c ys) })))
 
 -- the same of a term
 abbrev pub write_term : Machine → Reg → Term → (Machine → Effect) → Effect

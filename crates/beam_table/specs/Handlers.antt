@@ -4,18 +4,18 @@ use Rattle.erl_term.specs.Term as T
 use Rattle.erl_term.specs.Term.{Term, none, more}
 use Rattle.erl_term.specs.Terms.{tagged}
 use Rattle.world_model.specs.World as W
-use Rattle.step_machine.specs.Frames.{no_tags}
+use Rattle.step_machine.specs.Frames.{no_tags, with_cell, in_frame}
 use Rattle.step_machine.specs.Steps.{goes, bad}
 use Rattle.bif_table.specs.BuiltinAnswer.{badarg}
 use Rattle.beam_table.specs.Code.{x_reg, Source, reg, AsmModule}
 use Rattle.beam_table.specs.MachineState.{Kind, Cell, Machine, a_try, a_catch, unset, killed, tag}
-use Rattle.beam_table.specs.GeneralRules.{Effect, needs, tag_in, with_cell, in_frame, read, outside_window, alone, leaves, raising, asking}
+use Rattle.beam_table.specs.GeneralRules.{Effect, needs, tag_in, read, outside_window, alone, leaves, raising, asking}
 
 -- {'try',Y,L}, {'catch',Y,L}: no tag stands in Y or below it; Y gets a tag with L
 abbrev pub do_tag : Kind → ℕ → ℕ → Machine → Effect
-do_tag k n l m = outside_window m (in_frame m.frame λ ys.
+do_tag k n l m = outside_window m (in_frame bad m.frame λ ys.
     needs (ltb n (length ys) && no_tags tag_in (take (suc n) ys))
-    (goes (record m { frame = Some (with_cell n (tag k l) ys) })))
+    (goes (record m { frame = Some (with_cell unset n (tag k l) ys) })))
 
 -- a tag is wanted
 abbrev pub if_tag : Cell → (Kind → Effect) → Effect
@@ -24,8 +24,8 @@ if_tag _ f = bad
 
 -- the tag in slot n, the lowest one, goes
 abbrev pub ends_tag : ℕ → Machine → (Kind → Machine → Effect) → Effect
-ends_tag n m f = outside_window m (in_frame m.frame λ ys. if_tag (get_or ys n unset) λ k.
-    needs (no_tags tag_in (take n ys)) (f k (record m { frame = Some (with_cell n killed ys) })))
+ends_tag n m f = outside_window m (in_frame bad m.frame λ ys. if_tag (get_or ys n unset) λ k.
+    needs (no_tags tag_in (take n ys)) (f k (record m { frame = Some (with_cell unset n killed ys) })))
 
 -- {try_end,Y}: the tag in Y, the lowest one, goes; Y is killed
 abbrev pub do_try_end : ℕ → Machine → Effect
@@ -61,7 +61,7 @@ do_catch_end n m = ends_tag n m λ k u. if_catch k (elim m.landing [
 
 -- build_stacktrace: needs a frame, leaves, and asks for the trace; it is alone in x0
 abbrev pub do_stacktrace : Machine → Effect
-do_stacktrace m = in_frame m.frame λ ys. leaves 1 m λ u. asking W.trace u λ r v. alone r.term v
+do_stacktrace m = in_frame bad m.frame λ ys. leaves 1 m λ u. asking W.trace u λ r v. alone r.term v
 
 module _ (a : AsmModule) where
   -- with the class that a raw trace keeps; badarg where there is none

@@ -8,13 +8,14 @@ use Rattle.world_model.specs.World as W
 use Rattle.world_model.specs.Receive.{Timeout, now, in', wrong, timeout_of, without, new_or}
 use Rattle.world_model.specs.World.{Delay, forever, millis, Message, taken}
 use Rattle.step_machine.specs.Steps.{goes, bad, notes, happened, examined}
+use Rattle.step_machine.specs.Frames.{with_cell}
 use Rattle.beam_table.specs.Code.{Reg, Source, AsmModule}
-use Rattle.beam_table.specs.MachineState.{Cell, Machine, term, marker}
-use Rattle.beam_table.specs.GeneralRules.{Effect, with_cell, read_reg, read, outside_window, write, jumps, raising, asking}
+use Rattle.beam_table.specs.MachineState.{Cell, Machine, term, marker, unset}
+use Rattle.beam_table.specs.GeneralRules.{Effect, read_reg, read, outside_window, write, jumps, raising, asking}
 
 -- the message at the save place, in X register n
 abbrev pub look_at : ℕ → Message → Machine → Effect
-look_at n w m = notes (examined w.serial) (goes (record m { xs = with_cell n (term w.term) []; window = Some w }))
+look_at n w m = notes (examined w.serial) (goes (record m { xs = with_cell unset n (term w.term) []; window = Some w }))
 
 -- the message, if there is one
 abbrev pub look_or : ℕ → Option Message → Machine → (Machine → Effect) → Effect

@@ -10,11 +10,12 @@ use Rattle.step_machine.proofs.EntryLaws.{give_keeps}
 use Rattle.step_machine.specs.Bodies.{Bodies, entered_deep}
 use Rattle.step_machine.specs.Follows.{Follows}
 use Rattle.step_machine.specs.Steps.{Event, run}
+use Rattle.step_machine.specs.Frames.{with_cell}
 use Rattle.beam_table.specs.Code.{Reg, Source, Insn, move, return, AsmFun, AsmModule}
-use Rattle.beam_table.specs.GeneralRules.{returns_to, with_cell, cells}
+use Rattle.beam_table.specs.GeneralRules.{returns_to, cells}
 use Rattle.beam_table.specs.InstructionStep.{step}
 use Rattle.beam_table.specs.MachineRun.{start}
-use Rattle.beam_table.specs.MachineState.{Cell, Activation, Machine}
+use Rattle.beam_table.specs.MachineState.{Cell, Activation, Machine, unset}
 use Rattle.behaviour.proofs.Entering.{start_at_entry, start_holds}
 use Rattle.behaviour.proofs.Whole.{meant, kept_follows}
 use Rattle.step_machine.specs.EntryBound.{BodiesKeep}
@@ -35,7 +36,7 @@ module _ (a : AsmModule) (t : Term) (own : Term)
     (all : (n : ℕ) (f : AsmFun) → slice_get a.funs n ≡ Some f → f.code ≡ code t) where
   returned : (vs : Values) (above : List Activation) (m : Machine) (rs : List Reply) (log : List Event) →
       Comes (target a own) (placed (code t) (cells vs) above m) rs log
-      (returns_to above t (placed [] (with_cell 0 (Cell.term t) (cells vs)) above m)) rs log
+      (returns_to above t (placed [] (with_cell unset 0 (Cell.term t) (cells vs)) above m)) rs log
   unfolding step run
   returned [] above m rs log = record { steps = 1; then_same = λ k. refl }
   returned (v ∷ vs) above m rs log = record { steps = 1; then_same = λ k. refl }
@@ -55,7 +56,7 @@ module _ (a : AsmModule) (t : Term) (own : Term)
   pub bodies_realized : (name : Name) → BodiesRealized (target a own) name own (bodies t)
   unfolding bodies
   bodies_realized name d n enter vs above m rs log s low calls l e w = record {
-    state = placed [] (with_cell 0 (Cell.term t) (cells vs)) above m;
+    state = placed [] (with_cell unset 0 (Cell.term t) (cells vs)) above m;
     rs' = rs;
     log' = log;
     matches = record {
@@ -71,7 +72,7 @@ module _ (a : AsmModule) (t : Term) (own : Term)
       };
     };
     comes = subst (λ z. Comes (target a own) z rs log
-        (returns_to above t (placed [] (with_cell 0 (Cell.term t) (cells vs)) above m)) rs log)
+        (returns_to above t (placed [] (with_cell unset 0 (Cell.term t) (cells vs)) above m)) rs log)
         (sym (is_placed n vs above m s e w.mailbox)) (returned vs above m rs log);
   }
 

@@ -8,6 +8,7 @@ use Rattle.core_form.specs.Core.{Module, Expr, literal, var, fun, Defs, no_def, 
 use Rattle.beam_table.specs.Code as C
 use Rattle.beam_table.specs.Code.{Insn, move, return, x_reg, AsmFun, AsmModule}
 use Rattle.erl_term.specs.Ranges.{is_within_128}
+use Rattle.beam_table.specs.OperandBounds.{most_arity}
 use Rattle.beam_table.specs.ValidModule.{every, attribute_ok, Valid}
 use Rattle.behaviour.specs.Called.{export_keys, each_once}
 use Rattle.behaviour.specs.SameBehaviour.{SameBehaviour, TailCalls, CheapCalls}
@@ -104,7 +105,7 @@ body_fits (parameter j) = true
 
 -- a function that a text can hold
 abbrev pub fun_fits : PlainFun → Bool
-fun_fits h = leb h.key.arity 255 && body_fits h.body
+fun_fits h = leb h.key.arity most_arity && body_fits h.body
 
 -- so few and such functions that a text can hold them
 pub record FitsText (m : Module) (hs : List PlainFun) : Type 0 where

@@ -27,13 +27,17 @@ IsCompileAnswer Unfinished = ⊥
 IsCompileAnswer Beyond = ⊥
 IsCompileAnswer status = Unit {0}
 
+-- the most bytes of a module's text
+abbrev pub most_bytes : ℕ
+most_bytes = 16777216
+
 -- the file has this text, which is no longer than the limit
 abbrev pub HasText : Option (List ℕ) → List ℕ → Type 0
-HasText file text = (file ≡ Some text) × (length text ≤ 16777216)
+HasText file text = (file ≡ Some text) × (length text ≤ most_bytes)
 
 -- a file past the limit, or a text that is not accepted
 abbrev pub IsCause : Kind → List ℕ → Files → Type 0
-IsCause TooLarge input old = (text : List ℕ) × (old input ≡ Some text) × (16777216 < length text)
+IsCause TooLarge input old = (text : List ℕ) × (old input ≡ Some text) × (most_bytes < length text)
 IsCause _ input old = (text : List ℕ) × HasText (old input) text × ((m : Module) → AcceptedText text m → ⊥)
 
 -- after a failed write OUT is as before, absent, or holds a prefix of the compiled text

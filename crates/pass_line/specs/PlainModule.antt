@@ -8,11 +8,20 @@ use Rattle.core_form.specs.declared.tree.Binder.{Binder}
 use Rattle.core_form.specs.declared.module.FunName.{FunName}
 use Rattle.core_form.specs.Core.{Expr, literal, var, fun, Def, Defs, no_def, and_def, def, Module}
 use Rattle.erl_term.specs.Ranges.{is_within_128}
+use Rattle.beam_table.specs.OperandBounds.{most_arity}
 use Rattle.beam_table.specs.ValidModule.{every}
 
--- an atom that is written without quotes, of at most 255 characters
+-- the most characters of an atom
+abbrev pub most_characters : ℕ
+most_characters = 255
+
+-- the most functions of a module
+abbrev pub most_functions : ℕ
+most_functions = 20000
+
+-- an atom that is written without quotes and not too long
 abbrev pub is_plain_atom : Name → Bool
-is_plain_atom name = is_plain_name name && nat_le (length name) 255
+is_plain_atom name = is_plain_name name && nat_le (length name) most_characters
 
 -- Definitions.
 
@@ -59,7 +68,7 @@ is_plain_body xs _ = false
 -- a plain function of this name and arity
 abbrev pub is_plain_fun : FunKey → Expr → Bool
 is_plain_fun f (fun p xs e) =
-    nat_le f.arity 255 && f.arity == length xs && are_distinct xs && is_plain_atom f.name && is_plain_body xs e
+    nat_le f.arity most_arity && f.arity == length xs && are_distinct xs && is_plain_atom f.name && is_plain_body xs e
 is_plain_fun f _ = false
 
 -- the definition of a plain function
@@ -74,7 +83,7 @@ are_plain (and_def d ds) = is_plain_def d && are_plain ds
 -- a module that is compiled today
 pub record IsPlain (m : Module) : Type 0 where
   pub name : IsTrue (is_plain_atom m.name)
-  pub few_functions : IsTrue (nat_le (length (keys_of m.defs)) 20000)
+  pub few_functions : IsTrue (nat_le (length (keys_of m.defs)) most_functions)
   pub functions : IsTrue (are_plain m.defs)
   pub distinct_functions : IsTrue (keys_distinct (keys_of m.defs))
   pub known_exports : IsTrue (are_known (keys_of m.defs) m.exports)

@@ -17,6 +17,7 @@ use Rattle.core_form.specs.declared.tree.Binder.{Binder}
 use Rattle.core_form.specs.declared.module.FunName.{FunName}
 use Rattle.core_form.specs.Core.{Expr, literal, var, fun, Def, def, Module}
 use Rattle.core_form.specs.View as View
+use Rattle.beam_table.specs.OperandBounds.{most_arity}
 use Rattle.pass_line.specs.PlainModule.{IsPlain}
 
 -- What a token is: which symbol, which word, the end of the text, an atom or a variable.
@@ -118,11 +119,11 @@ value_of (Atom name) p = literal p (atom name)
 value_of (Variable name) p = var p name
 value_of _ p = literal p nil
 
--- FName = Atom / Integer: the integer has no sign, at most nine digits, and is at most 255.
+-- FName = Atom / Integer: the integer has no sign, at most nine digits, and is within the limit.
 
--- an unsigned number of at most nine digits, up to 255
+-- an unsigned number of at most nine digits, up to the limit
 abbrev pub is_arity_in : TokenKind → (digits : ℕ) → Bool
-is_arity_in (Number false (pos n)) digits = nat_le digits 9 && nat_le n 255
+is_arity_in (Number false (pos n)) digits = nat_le digits 9 && nat_le n most_arity
 is_arity_in _ digits = false
 
 -- the number of such a token

@@ -6,6 +6,7 @@ ghost use Rattle.core_form.specs.View as Tree;
 ghost use Rattle.beam_table.specs.View.{insn_view, fun_view, module_view, source_view};
 ghost use Rattle.erl_base.specs.Names.{is_key};
 ghost use Rattle.behaviour.specs.Called.{each_once};
+ghost use Rattle.pass_line.specs.PlainModule.{most_functions};
 ghost use Rattle.pass_line.specs.PlainCode.{index_of, gives, gives_parameter, gives_literal, gives_body, code, function, functions, assembly};
 
 use crate::plain::is_same;
@@ -99,7 +100,7 @@ fn code(alloc: Global, fun: &Expr) -> Result<Insns, NoMemory>
 }
 
 fn function(alloc: Global, number: u32, def: &Def) -> Result<AsmFun, NoMemory>
-    requires { number < 20000 }
+    requires { number < most_functions }
     ensures { IfOk result (λ made. fun_view made ≡ function number (def_view def.now)) }
 {
     let code = code(alloc, &def.fun)?;
@@ -112,7 +113,7 @@ fn function(alloc: Global, number: u32, def: &Def) -> Result<AsmFun, NoMemory>
 }
 
 fn functions(alloc: Global, ds: &[Def]) -> Result<AsmFuns, NoMemory>
-    requires { length ds.now ≤ 20000 }
+    requires { length ds.now ≤ most_functions }
     ensures { IfOk result (λ made. map fun_view made ≡ functions 0 (defs (map def_view ds.now))) }
 {
     let mut made = List::new(alloc);
@@ -150,7 +151,7 @@ fn exports(alloc: Global, names: &[FunName]) -> Result<FunKeys, NoMemory>
 
 /// The assembly of the module.
 pub fn assembly(alloc: Global, tree: &Module) -> Result<AsmModule, NoMemory>
-    requires { length tree.now.defs ≤ 20000 }
+    requires { length tree.now.defs ≤ most_functions }
     ensures { IfOk result (λ made. module_view made ≡ assembly (Tree.module_view tree.now)) }
 {
     let name = tree.name.copy(alloc)?;

@@ -14,11 +14,18 @@ use key_set::KeySet;
 use std::alloc::Global;
 use term_text::is_plain_name;
 
+/// The most parameters of a function.
+pub const MOST_ARITY: u32 = 255;
+// The most characters of an atom.
+const MOST_CHARACTERS: usize = 255;
+// The most functions of a module.
+const MOST_FUNCTIONS: usize = 20000;
+
 fn is_plain_atom(alloc: Global, name: &Name) -> Result<bool, NoMemory>
     ensures { IfOk result (λ plain. plain ≡ is_plain_atom name.now) }
 {
     let characters = characters_of(alloc, name)?;
-    Ok(is_plain_name(characters.as_slice()) && characters.len() <= 255)
+    Ok(is_plain_name(characters.as_slice()) && characters.len() <= MOST_CHARACTERS)
 }
 
 pub fn is_same(name: &Name, other: &Name) -> bool
@@ -103,7 +110,7 @@ fn is_plain_def(alloc: Global, def: &Def) -> Result<bool, NoMemory>
     let ExprForm::Fun(xs, body) = &def.fun.form else {
         return Ok(false);
     };
-    if def.key.arity > 255 || def.key.arity as usize != xs.len() {
+    if def.key.arity > MOST_ARITY || def.key.arity as usize != xs.len() {
         return Ok(false);
     }
     if !are_distinct(xs.as_slice()) {
@@ -156,7 +163,7 @@ fn are_known(known: &KeySet, exports: &[FunName]) -> bool
 pub fn is_plain(alloc: Global, tree: &Module) -> Result<bool, NoMemory>
     ensures { IfOk result (λ plain. IsTrue plain ↔ IsPlain (module_view tree.now)) }
 {
-    if tree.defs.len() > 20000 {
+    if tree.defs.len() > MOST_FUNCTIONS {
         return Ok(false);
     }
     if !tree.attributes.is_empty() {

@@ -6,6 +6,7 @@ ghost use Rattle.core_form.specs.Core as Plain;
 ghost use Rattle.core_form.specs.View.{view, def_view, module_view};
 ghost use Rattle.pass_line.specs.PlainText.{is_open_paren, is_close_paren, is_comma, is_arrow, is_slash, is_equals, is_open_bracket, is_close_bracket, is_attributes_word, is_end_word, is_fun_word, is_module_word, is_variable, is_value, value_of, is_arity_in, arity_in, is_fun_name, fun_name, names_from, names, binder, opens_fun, ends, defs, params, params_after, body, opens_module, are_attributes, tree};
 
+use crate::plain::MOST_ARITY;
 use core_form::{Binder, Binders, Def, Defs, Expr, ExprForm, FunName, FunNames, Module};
 use core_lex::{Symbol, Token, TokenKind, Word};
 use erl_base::{Boxed, FunKey, List, Name, NoMemory, Place};
@@ -94,7 +95,7 @@ fn arity(token: &Token) -> Option<u32>
     if *signed || token.to.saturating_sub(token.from) > 9 {
         return None;
     }
-    if *number < 0 || *number > 255 {
+    if *number < 0 || *number > MOST_ARITY as i128 {
         return None;
     }
     Some(*number as u32)

@@ -1,14 +1,14 @@
 -- Registers and stack frames keep track of the handlers that are open.
 use Rattle.std.proofs.Common.{◌≡◌, ◌≤◌, ◌<◌, ℕ, zero, suc, ◌+◌, ◌-◌, List, [], ◌∷◌, length, take, drop, replicate, Bool, true, false, not, ◌&&◌, Option, Some, None, refl, sym, ap, ◌∙◌, arith, eqb, ltb, leb, leb-true, ltb-true, slice_get, if◌then◌else◌}
-use Rattle.step_machine.specs.Frames.{is_tag, lowest_tag, no_tags}
+use Rattle.step_machine.specs.Frames.{is_tag, lowest_tag, no_tags, with_register, in_frame}
 use Rattle.ssa_form.specs.Ssa.{FrameAction, allocate, deallocate, kill, trim}
 use Rattle.ssa_form.specs.Storage.{Held, Handler, Leaving, calls, ends_body, always_raises}
-use Rattle.ssa_form.specs.Spots.{Spot, x_reg, y_slot, Spots, spot_of, slot_count, Cell, empty, killed, own, tag, tag_in, is_tag_of, with_cell}
+use Rattle.ssa_form.specs.Spots.{Spot, x_reg, y_slot, Spots, spot_of, slot_count, Cell, empty, killed, own, tag, tag_in, is_tag_of}
 use Rattle.ssa_form.specs.SsaRun.{first_handler, without_first, only_if}
 use Rattle.ssa_form.specs.PlacedRun as Placed
 use Rattle.ssa_form.specs.PlacedRun.{Registers, in_registers}
 use Rattle.ssa_form.specs.FramedRun as Framed
-use Rattle.ssa_form.specs.FramedRun.{Stack, in_stack, with_slot, size_at, frame_is, none_empty}
+use Rattle.ssa_form.specs.FramedRun.{Stack, in_stack, size_at, frame_is, none_empty}
 use Rattle.ssa_form.proofs.OpenHandlers.{Tracks, some_is, none_is}
 
 -- what stands behind a condition
@@ -57,7 +57,8 @@ module _ (spots : Spots) where
       → (h : Handler) × (st.handlers ≡ h ∷ u.handlers)
   registers_close v None st u e = absurd (none_is u e)
   registers_close v (Some (x_reg n)) st u e = absurd (none_is u e)
-  registers_close v (Some (y_slot n)) st u e = rest_closes v st.handlers (record st { ys = with_cell n empty st.ys }) u
+  registers_close v (Some (y_slot n)) st u e =
+      rest_closes v st.handlers (record st { ys = with_register n empty st.ys }) u
       (if_some_else (is_tag_of v (st.ys n)) _ u e).1
 
   pub registers_track : Tracks (in_registers spots) (λ st. st.handlers)
@@ -142,22 +143,22 @@ dropped_tags (suc n) (c ∷ cs) e = let p : (not (is_tag tag_in c) ≡ true) × 
 
 module _ (spots : Spots) (sizes : List (ℕ × ℕ)) where
   put_same : (ys : List Cell) (i : ℕ) (c : Cell) → is_tag tag_in c ≡ false
-      → not (is_tag tag_in (Framed.or_empty spots sizes (slice_get ys i))) ≡ true → tags (with_slot i c ys) ≡ tags ys
+      → not (is_tag tag_in (Framed.or_empty spots sizes (slice_get ys i))) ≡ true → tags (set ys i c) ≡ tags ys
   put_same [] i c e f = refl
   put_same (d ∷ ds) zero c e f = tags_untagged c ds e ∙ sym (tags_untagged d ds (not_true _ f))
-  put_same (d ∷ ds) (suc i) c e f = tags_behind d (with_slot i c ds) ds (put_same ds i c e f)
+  put_same (d ∷ ds) (suc i) c e f = tags_behind d (set ds i c) ds (put_same ds i c e f)
 
   tag_put : (ys : List Cell) (i : ℕ) (h : Handler) → i < length ys → no_tags tag_in (take (suc i) ys) ≡ true
-      → tags (with_slot i (tag h.tag h.landing) ys) ≡ h ∷ tags ys
+      → tags (set ys i (tag h.tag h.landing)) ≡ h ∷ tags ys
   tag_put [] i h l e = absurd (omega (arith, l))
   tag_put (d ∷ ds) zero h l e = ap (λ z. h ∷ z) (sym (tags_untagged d ds (not_true _ (both_true _ _ e).0)))
   tag_put (d ∷ ds) (suc i) h l e =
       let p : (not (is_tag tag_in d) ≡ true) × (no_tags tag_in (take (suc i) ds) ≡ true) = both_true _ _ e in
-      tags_untagged d (with_slot i (tag h.tag h.landing) ds) (not_true _ p.0) ∙ tag_put ds i h (omega (arith, l)) p.1
+      tags_untagged d (set ds i (tag h.tag h.landing)) (not_true _ p.0) ∙ tag_put ds i h (omega (arith, l)) p.1
       ∙ ap (λ z. h ∷ z) (sym (tags_untagged d ds (not_true _ p.0)))
 
   tag_taken : (ys : List Cell) (i v : ℕ) → is_tag_of v (Framed.or_empty spots sizes (slice_get ys i)) ≡ true
-      → no_tags tag_in (take i ys) ≡ true → (h : Handler) × (tags ys ≡ h ∷ tags (with_slot i killed ys))
+      → no_tags tag_in (take i ys) ≡ true → (h : Handler) × (tags ys ≡ h ∷ tags (set ys i killed))
   tag_taken [] i v e f = absurd cc
   tag_taken (tag w b ∷ ds) zero v e f = (record { tag = w; landing = b }, refl)
   tag_taken (empty ∷ ds) zero v e f = absurd cc
@@ -165,10 +166,10 @@ module _ (spots : Spots) (sizes : List (ℕ × ℕ)) where
   tag_taken (own w h ∷ ds) zero v e f = absurd cc
   tag_taken (d ∷ ds) (suc i) v e f =
       let p : (not (is_tag tag_in d) ≡ true) × (no_tags tag_in (take i ds) ≡ true) = both_true _ _ f in
-      let r : (h : Handler) × (tags ds ≡ h ∷ tags (with_slot i killed ds)) = tag_taken ds i v e p.1 in (
+      let r : (h : Handler) × (tags ds ≡ h ∷ tags (set ds i killed)) = tag_taken ds i v e p.1 in (
         r.0,
         tags_untagged d ds (not_true _ p.0) ∙ r.1
-            ∙ ap (λ z. r.0 ∷ z) (sym (tags_untagged d (with_slot i killed ds) (not_true _ p.0))),
+            ∙ ap (λ z. r.0 ∷ z) (sym (tags_untagged d (set ds i killed) (not_true _ p.0))),
       )
 
   index_within : (n i : ℕ) (ys : List Cell) → Framed.index_of spots sizes n ys ≡ Some i → i < length ys
@@ -192,10 +193,10 @@ module _ (spots : Spots) (sizes : List (ℕ × ℕ)) where
       → Framed.put_slot spots sizes i c ys ≡ Some zs → tags zs ≡ tags ys
   slot_put None c ys zs e f = absurd (none_is zs f)
   slot_put (Some i) c ys zs e f = let p : (not (is_tag tag_in (Framed.or_empty spots sizes (slice_get ys i))) ≡ true)
-      × (with_slot i c ys ≡ zs) = only_some _ _ zs f in ap tags (sym p.1) ∙ put_same ys i c e p.0
+      × (set ys i c ≡ zs) = only_some _ _ zs f in ap tags (sym p.1) ∙ put_same ys i c e p.0
 
   slot_written : (f : Option (List Cell)) (n : ℕ) (c : Cell) (st u : Stack) → f ≡ st.frame → is_tag tag_in c ≡ false
-      → Framed.in_frame f (λ ys. Framed.with_frame st
+      → in_frame None f (λ ys. Framed.with_frame st
       (Framed.put_slot spots sizes (Framed.index_of spots sizes n ys) c ys)) ≡ Some u → open_tags u ≡ open_tags st
   slot_written None n c st u p e h = absurd (none_is u h)
   slot_written (Some ys) n c st u p e h = with_kept st u _ (open_tags st)
@@ -208,7 +209,7 @@ module _ (spots : Spots) (sizes : List (ℕ × ℕ)) where
   stack_write true c (Some (y_slot n)) st u t e = absurd (none_is u e)
   stack_write false c (Some (y_slot n)) st u t e = slot_written st.frame n c st u refl t e
 
-  in_any_frame : (f : Option (List Cell)) (st u : Stack) → Framed.in_frame f (λ ys. Some st) ≡ Some u
+  in_any_frame : (f : Option (List Cell)) (st u : Stack) → in_frame None f (λ ys. Some st) ≡ Some u
       → open_tags u ≡ open_tags st
   in_any_frame None st u e = absurd (none_is u e)
   in_any_frame (Some ys) st u e = ap open_tags (sym (some_is st u e))
@@ -232,7 +233,7 @@ module _ (spots : Spots) (sizes : List (ℕ × ℕ)) where
           → tags zs ≡ h ∷ tags ys
       at_index None l e = absurd (none_is zs e)
       at_index (Some i) l e = let p : (no_tags tag_in (take (suc i) ys) ≡ true)
-          × (with_slot i (tag h.tag h.landing) ys ≡ zs) =
+          × (set ys i (tag h.tag h.landing) ≡ zs) =
           only_some _ _ zs e in ap tags (sym p.1) ∙ tag_put ys i h (l i refl) p.0
 
   stack_open : (h : Handler) (p : Option Spot) (st u : Stack) → Framed.open_in spots sizes h p st ≡ Some u
@@ -242,7 +243,7 @@ module _ (spots : Spots) (sizes : List (ℕ × ℕ)) where
   stack_open h (Some (y_slot n)) st u e = in_slots st.frame refl e
     where
       in_slots : (f : Option (List Cell)) → f ≡ st.frame
-          → Framed.in_frame f (λ ys. Framed.with_frame st
+          → in_frame None f (λ ys. Framed.with_frame st
           (Framed.open_slot spots sizes h (Framed.index_of spots sizes n ys) ys)) ≡ Some u
           → open_tags u ≡ h ∷ open_tags st
       in_slots None p e = absurd (none_is u e)
@@ -254,10 +255,10 @@ module _ (spots : Spots) (sizes : List (ℕ × ℕ)) where
   slot_closed v None ys zs e = absurd (none_is zs e)
   slot_closed v (Some i) ys zs e =
       let p : ((is_tag_of v (Framed.or_empty spots sizes (slice_get ys i)) && no_tags tag_in (take i ys)) ≡ true)
-      × (with_slot i killed ys ≡ zs) = only_some _ _ zs e in
+      × (set ys i killed ≡ zs) = only_some _ _ zs e in
       let q : (is_tag_of v (Framed.or_empty spots sizes (slice_get ys i)) ≡ true)
       × (no_tags tag_in (take i ys) ≡ true) = both_true _ _ p.0 in
-      let r : (h : Handler) × (tags ys ≡ h ∷ tags (with_slot i killed ys)) = tag_taken ys i v q.0 q.1 in
+      let r : (h : Handler) × (tags ys ≡ h ∷ tags (set ys i killed)) = tag_taken ys i v q.0 q.1 in
       (r.0, r.1 ∙ ap (λ z. r.0 ∷ tags z) p.1)
 
   stack_close : (v : ℕ) (p : Option Spot) (st u : Stack) → Framed.close_in spots sizes v p st ≡ Some u
@@ -267,7 +268,7 @@ module _ (spots : Spots) (sizes : List (ℕ × ℕ)) where
   stack_close v (Some (y_slot n)) st u e = in_slots st.frame refl e
     where
       in_slots : (f : Option (List Cell)) → f ≡ st.frame
-          → Framed.in_frame f (λ ys. Framed.with_frame st
+          → in_frame None f (λ ys. Framed.with_frame st
           (Framed.close_slot spots sizes v (Framed.index_of spots sizes n ys) ys)) ≡ Some u
           → (h : Handler) × (open_tags st ≡ h ∷ open_tags u)
       in_slots None p e = absurd (none_is u e)
@@ -293,7 +294,8 @@ module _ (spots : Spots) (sizes : List (ℕ × ℕ)) where
   allocated (Some ys) n st u p e = absurd (none_is u e)
 
   deallocated : (f : Option (List Cell)) (n : ℕ) (st u : Stack) → f ≡ st.frame
-      → Framed.in_frame f (λ ys. only_if (eqb (length ys) n && no_tags tag_in ys) (record st { frame = None })) ≡ Some u
+      → in_frame None f (λ ys. only_if (eqb (length ys) n && no_tags tag_in ys) (record st { frame = None }))
+          ≡ Some u
       → open_tags u ≡ open_tags st
   deallocated None n st u p e = absurd (none_is u e)
   deallocated (Some ys) n st u p e = let q : ((eqb (length ys) n && no_tags tag_in ys) ≡ true)
@@ -301,7 +303,7 @@ module _ (spots : Spots) (sizes : List (ℕ × ℕ)) where
       ap open_tags (sym q.1) ∙ sym (none_tagged ys (both_true _ _ q.0).1) ∙ ap frame_tags p
 
   trimmed : (f : Option (List Cell)) (n : ℕ) (st u : Stack) → f ≡ st.frame
-      → Framed.in_frame f (λ ys. only_if (leb n (length ys) && no_tags tag_in (take n ys))
+      → in_frame None f (λ ys. only_if (leb n (length ys) && no_tags tag_in (take n ys))
       (record st { frame = Some (drop n ys) })) ≡ Some u → open_tags u ≡ open_tags st
   trimmed None n st u p e = absurd (none_is u e)
   trimmed (Some ys) n st u p e = let q : ((leb n (length ys) && no_tags tag_in (take n ys)) ≡ true)

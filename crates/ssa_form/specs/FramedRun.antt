@@ -1,14 +1,14 @@
 -- What a body does whose variables have spots and whose blocks have stack frames. Beside what is wrong with spots
 -- alone, a missing or a wrong frame, and an unset slot where the run may collect, are broken rules.
-use Rattle.std.specs.Prelude.{◌≡◌, ℕ, zero, suc, ◌+◌, ◌-◌, List, [], ◌∷◌, length, slice_get, take, drop, replicate, Bool, true, false, not, ◌&&◌, ltb, leb, eqb, Option, Some, None, if◌then◌else◌}
+use Rattle.std.specs.Prelude.{◌≡◌, ℕ, zero, suc, ◌+◌, ◌-◌, List, [], ◌∷◌, length, slice_get, set, take, drop, replicate, Bool, true, false, not, ◌&&◌, ltb, leb, eqb, Option, Some, None, if◌then◌else◌}
 use Rattle.erl_term.specs.Term.{Term}
 use Rattle.erl_term.specs.Terms.{Values}
 use Rattle.world_model.specs.Run.{State, Outcome}
 use Rattle.step_machine.specs.Bodies.{Here}
-use Rattle.step_machine.specs.Frames.{MatchContext, is_tag, lowest_tag, no_tags}
+use Rattle.step_machine.specs.Frames.{MatchContext, with_register, in_frame, no_frame, is_tag, lowest_tag, no_tags}
 use Rattle.ssa_form.specs.Ssa.{Body, FrameAction, allocate, deallocate, kill, trim}
 use Rattle.ssa_form.specs.Storage.{Held, Handler, Leaving, calls, ends_body, always_raises, Storage, Ended, done, Around}
-use Rattle.ssa_form.specs.Spots.{Spot, x_reg, y_slot, Spots, spot_of, slot_count, Cell, empty, killed, own, tag, nothing, with_cell, tag_in, is_tag_of, held_in}
+use Rattle.ssa_form.specs.Spots.{Spot, x_reg, y_slot, Spots, spot_of, slot_count, Cell, empty, killed, own, tag, nothing, tag_in, is_tag_of, held_in}
 use Rattle.ssa_form.specs.SsaRun.{only_if, all_terms, body_run, blocks}
 use Rattle.ssa_form.specs.PlacedRun.{run_if, and_then}
 
@@ -35,25 +35,10 @@ none_empty [] = true
 none_empty (empty ∷ cs) = false
 none_empty (c ∷ cs) = none_empty cs
 
--- slot n is written anew
-abbrev pub with_slot : ℕ → Cell → List Cell → List Cell
-with_slot n c [] = []
-with_slot zero c (d ∷ ds) = c ∷ ds
-with_slot (suc n) c (d ∷ ds) = d ∷ with_slot n c ds
-
 -- with this frame, if there is one
 abbrev pub with_frame : Stack → Option (List Cell) → Option Stack
 with_frame st None = None
 with_frame st (Some ys) = Some (record st { frame = Some ys })
-
--- no frame is wanted
-abbrev pub no_frame : Stack → Option Stack
-no_frame st = elim st.frame [ None ↦ Some st | Some ys ↦ None ]
-
--- a frame is wanted
-abbrev pub in_frame : {A : Type 0} → Option (List Cell) → (List Cell → Option A) → Option A
-in_frame None k = None
-in_frame (Some ys) k = k ys
 
 -- a frame of this size, or none
 abbrev pub frame_is : Option ℕ → Option (List Cell) → Bool
@@ -94,44 +79,44 @@ module _ (spots : Spots) (sizes : List (ℕ × ℕ)) where
   -- a slot of the frame that holds no tag
   abbrev pub put_slot : Option ℕ → Cell → List Cell → Option (List Cell)
   put_slot None c ys = None
-  put_slot (Some i) c ys = only_if (not (is_tag tag_in (or_empty (slice_get ys i)))) (with_slot i c ys)
+  put_slot (Some i) c ys = only_if (not (is_tag tag_in (or_empty (slice_get ys i)))) (set ys i c)
 
   -- slots are written outside the window alone
   abbrev pub write_slot : Bool → ℕ → Cell → Stack → Option Stack
   write_slot true n c st = None
-  write_slot false n c st = in_frame st.frame λ ys. with_frame st (put_slot (index_of n ys) c ys)
+  write_slot false n c st = in_frame None st.frame λ ys. with_frame st (put_slot (index_of n ys) c ys)
 
   -- a spot is written
   abbrev pub write_in : Bool → Cell → Option Spot → Stack → Option Stack
   write_in w c None st = None
-  write_in w c (Some (x_reg n)) st = Some (record st { xs = with_cell n c st.xs })
+  write_in w c (Some (x_reg n)) st = Some (record st { xs = with_register n c st.xs })
   write_in w c (Some (y_slot n)) st = write_slot w n c st
 
   -- no tag may stand in the slot or below it
   abbrev pub open_slot : Handler → Option ℕ → List Cell → Option (List Cell)
   open_slot h None ys = None
-  open_slot h (Some i) ys = only_if (no_tags tag_in (take (suc i) ys)) (with_slot i (tag h.tag h.landing) ys)
+  open_slot h (Some i) ys = only_if (no_tags tag_in (take (suc i) ys)) (set ys i (tag h.tag h.landing))
 
   -- a handler opens in a slot
   abbrev pub open_in : Handler → Option Spot → Stack → Option Stack
-  open_in h (Some (y_slot n)) st = in_frame st.frame λ ys. with_frame st (open_slot h (index_of n ys) ys)
+  open_in h (Some (y_slot n)) st = in_frame None st.frame λ ys. with_frame st (open_slot h (index_of n ys) ys)
   open_in h _ st = None
 
   -- the lowest tag goes, and its slot is killed
   abbrev pub close_slot : ℕ → Option ℕ → List Cell → Option (List Cell)
   close_slot v None ys = None
   close_slot v (Some i) ys =
-      only_if (is_tag_of v (or_empty (slice_get ys i)) && no_tags tag_in (take i ys)) (with_slot i killed ys)
+      only_if (is_tag_of v (or_empty (slice_get ys i)) && no_tags tag_in (take i ys)) (set ys i killed)
 
   -- the innermost handler closes
   abbrev pub close_in : ℕ → Option Spot → Stack → Option Stack
-  close_in v (Some (y_slot n)) st = in_frame st.frame λ ys. with_frame st (close_slot v (index_of n ys) ys)
+  close_in v (Some (y_slot n)) st = in_frame None st.frame λ ys. with_frame st (close_slot v (index_of n ys) ys)
   close_in v _ st = None
 
   -- calls need a frame, the end of a body none
   abbrev pub stack_leaves : Leaving → Stack → Option Stack
-  stack_leaves calls st = in_frame st.frame λ ys. Some st
-  stack_leaves ends_body st = no_frame st
+  stack_leaves calls st = in_frame None st.frame λ ys. Some st
+  stack_leaves ends_body st = no_frame None st.frame (Some st)
   stack_leaves always_raises st = Some st
 
   -- no slot is empty where the run collects
@@ -144,10 +129,10 @@ module _ (spots : Spots) (sizes : List (ℕ × ℕ)) where
       if eqb n top then elim st.frame [ None ↦ Some (record st { frame = Some (replicate n empty) }) | Some ys ↦ None ]
       else None
   acts_on (deallocate n) st =
-      in_frame st.frame λ ys. only_if (eqb (length ys) n && no_tags tag_in ys) (record st { frame = None })
+      in_frame None st.frame λ ys. only_if (eqb (length ys) n && no_tags tag_in ys) (record st { frame = None })
   acts_on (kill n) st = write_slot false n killed st
   acts_on (trim n) st =
-      in_frame st.frame λ ys.
+      in_frame None st.frame λ ys.
       only_if (leb n (length ys) && no_tags tag_in (take n ys)) (record st { frame = Some (drop n ys) })
 
   -- the rules of a stack

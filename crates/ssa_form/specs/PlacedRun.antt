@@ -5,10 +5,10 @@ use Rattle.erl_term.specs.Term.{Term}
 use Rattle.erl_term.specs.Terms.{Values}
 use Rattle.world_model.specs.Run.{State, Outcome}
 use Rattle.step_machine.specs.Bodies.{Here}
-use Rattle.step_machine.specs.Frames.{MatchContext, is_tag}
+use Rattle.step_machine.specs.Frames.{MatchContext, with_register, is_tag}
 use Rattle.ssa_form.specs.Ssa.{Body}
 use Rattle.ssa_form.specs.Storage.{Held, Handler, Leaving, ends_body, Storage, Ended, done, Around}
-use Rattle.ssa_form.specs.Spots.{Spot, x_reg, y_slot, Spots, spot_of, Cell, empty, own, tag, nothing, with_cell, tag_in, is_tag_of, held_in}
+use Rattle.ssa_form.specs.Spots.{Spot, x_reg, y_slot, Spots, spot_of, Cell, empty, own, tag, nothing, tag_in, is_tag_of, held_in}
 use Rattle.ssa_form.specs.SsaRun.{no_handlers, first_handler, without_first, only_if, all_terms, body_run, blocks}
 
 -- a body with the spot of each variable
@@ -37,10 +37,10 @@ module _ (spots : Spots) where
   -- no slot is written in the receive window, and no tag is written over
   abbrev pub write_in : Bool → Cell → Option Spot → Registers → Option Registers
   write_in w c None st = None
-  write_in w c (Some (x_reg n)) st = Some (record st { xs = with_cell n c st.xs })
+  write_in w c (Some (x_reg n)) st = Some (record st { xs = with_register n c st.xs })
   write_in true c (Some (y_slot n)) st = None
   write_in false c (Some (y_slot n)) st =
-      only_if (not (is_tag tag_in (st.ys n))) (record st { ys = with_cell n c st.ys })
+      only_if (not (is_tag tag_in (st.ys n))) (record st { ys = with_register n c st.ys })
 
   -- a slot above this one
   abbrev pub in_higher : ℕ → Option Spot → Bool
@@ -56,7 +56,7 @@ module _ (spots : Spots) where
   abbrev pub open_in : Handler → Option Spot → Registers → Option Registers
   open_in h (Some (y_slot n)) st =
       only_if (all_higher n st.handlers)
-      (record st { ys = with_cell n (tag h.tag h.landing) st.ys; handlers = h ∷ st.handlers })
+      (record st { ys = with_register n (tag h.tag h.landing) st.ys; handlers = h ∷ st.handlers })
   open_in h _ st = None
 
   -- with these handlers left
@@ -68,7 +68,7 @@ module _ (spots : Spots) where
   abbrev pub close_in : ℕ → Option Spot → Registers → Option Registers
   close_in v (Some (y_slot n)) st =
       if is_tag_of v (st.ys n)
-      then with_rest (without_first v st.handlers) (record st { ys = with_cell n empty st.ys }) else None
+      then with_rest (without_first v st.handlers) (record st { ys = with_register n empty st.ys }) else None
   close_in v _ st = None
 
   -- no handler is open where a body ends

@@ -26,10 +26,6 @@ pub data Cell : Type 0 where
 abbrev pub nothing : ℕ → Cell
 nothing n = empty
 
--- one is written anew
-abbrev pub with_cell : ℕ → Cell → (ℕ → Cell) → ℕ → Cell
-with_cell n c cs k = if eqb k n then c else cs k
-
 -- the handler whose tag a cell holds
 abbrev pub tag_in : Cell → Option Handler
 tag_in (tag v b) = Some (record { tag = v; landing = b })

@@ -4,3 +4,4 @@ pub mod Bodies
 pub mod EntryBound
 pub mod Follows
 pub mod Frames
+pub mod FrameFacts

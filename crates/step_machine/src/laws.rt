@@ -1,4 +1,5 @@
 ghost use Rattle.step_machine.specs.Follows.{OneWaySuffices};
+ghost use Rattle.step_machine.specs.FrameFacts.{ListedRegistersAgree, SlotsAgree};
 ghost use Rattle.step_machine.specs.RunFacts.{EndedRunStays, LogGrows, RunSplits, EarlierNotesStay, UnaskedRepliesStay};
 
 /// After an end, further steps change nothing.
@@ -29,4 +30,14 @@ pub fn unasked_replies_do_not_matter<S>()
 /// Runs that reach what a meaning gives with each bound follow it both ways.
 pub fn one_direction_suffices<S>()
     ensures { OneWaySuffices S }
+{}
+
+/// A register written in a list holds what it holds where it is written by its number.
+pub fn listed_registers_agree<Cell>()
+    ensures { ListedRegistersAgree Cell }
+{}
+
+/// A slot within its frame is written as a cell of a list that may grow.
+pub fn slots_agree<Cell>()
+    ensures { SlotsAgree Cell }
 {}

@@ -7,6 +7,8 @@
 //! - `Follows`: for each bound on entries some number of steps notes and ends as the meaning does, and each number of
 //!   steps stays within it. `one_direction_suffices` gets this from steps that come to each meaning.
 //! - `entered_deep`: functions that enter one another by their sites; `EntryBound` says how they count their entries.
+//! - Registers and slots are written in lists by a machine and by their numbers where a form has no end of them:
+//!   `listed_registers_agree` and `slots_agree` say that these are one.
 //! - A step that must not be is `bad`, which is an end of its own, so that a run that is never bad can be asked for.
 //!
 //! The public functions have no code: the contract of each is a law of all runs. What holds of one machine alone stands
@@ -16,6 +18,6 @@
 mod laws;
 
 pub use laws::{
-    earlier_notes_do_not_matter, ended_run_stays_ended, log_only_grows, one_direction_suffices,
-    run_splits, unasked_replies_do_not_matter,
+    earlier_notes_do_not_matter, ended_run_stays_ended, listed_registers_agree, log_only_grows,
+    one_direction_suffices, run_splits, slots_agree, unasked_replies_do_not_matter,
 };
