@@ -1,5 +1,5 @@
 -- Registers and stack frames keep track of the handlers that are open.
-use Rattle.std.proofs.Common.{◌≡◌, ◌≤◌, ◌<◌, ℕ, zero, suc, ◌+◌, ◌-◌, List, [], ◌∷◌, length, take, drop, replicate, Bool, true, false, not, ◌&&◌, Option, Some, None, refl, sym, ap, ◌∙◌, arith, eqb, ltb, leb, leb-true, ltb-true, slice_get, if◌then◌else◌}
+use Rattle.std.proofs.Common.{◌≡◌, ◌≤◌, ◌<◌, ℕ, zero, suc, ◌+◌, ◌-◌, List, [], ◌∷◌, length, take, drop, replicate, set, Bool, true, false, not, ◌&&◌, Option, Some, None, refl, sym, ap, ◌∙◌, arith, eqb, ltb, leb, leb-true, ltb-true, slice_get, if◌then◌else◌}
 use Rattle.step_machine.specs.Frames.{is_tag, lowest_tag, no_tags, with_register, in_frame}
 use Rattle.ssa_form.specs.Ssa.{FrameAction, allocate, deallocate, kill, trim}
 use Rattle.ssa_form.specs.Storage.{Held, Handler, Leaving, calls, ends_body, always_raises}
