@@ -36,8 +36,7 @@ module _ {Cell : Type 0} where
 
   -- what follows where no frame is wanted, and what comes where there is one
   abbrev pub no_frame : {A : Type 0} → A → Option (List Cell) → A → A
-  no_frame within None a = a
-  no_frame within (Some ys) a = within
+  no_frame within o a = elim o [ None ↦ a | Some ys ↦ within ]
 
 -- The tags in the slots of a frame, where `tag_in` tells the open handler whose tag a cell holds.
 module _ {Cell Handler : Type 0} (tag_in : Cell → Option Handler) where
