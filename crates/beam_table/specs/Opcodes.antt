@@ -235,9 +235,20 @@ come_again _ _ _ = false
 
 -- an operand of a kind
 abbrev pub is_of : Kind → Operand → Bool
+is_of K.Slots (P.list os) = come_again (inner K.Slots) [] os
+is_of K.Sources (P.list os) = come_again (inner K.Sources) [] os
+is_of K.PutPairs (P.list os) = come_again (inner K.PutPairs) [] os
+is_of K.GetPairs (P.list os) = come_again (inner K.GetPairs) [] os
+is_of K.ValueChoices (P.list os) = come_again (inner K.ValueChoices) [] os
+is_of K.SizeChoices (P.list os) = come_again (inner K.SizeChoices) [] os
+is_of K.Segments (P.list os) = come_again (inner K.Segments) [] os
 is_of K.Arguments (P.items os) = come_again (inner K.Arguments) [] os
-is_of k (P.items os) = come_once (inner k) os
-is_of k (P.list os) = come_again (inner k) [] os
+is_of K.One (P.items os) = come_once (inner K.One) os
+is_of K.Two (P.items os) = come_once (inner K.Two) os
+is_of K.Sized (P.items os) = come_once (inner K.Sized) os
+is_of K.Tagged (P.items os) = come_once (inner K.Tagged) os
+is_of K.Field (P.items os) = come_once (inner K.Field) os
+is_of K.Counted (P.items os) = come_once (inner K.Counted) os
 is_of k o = is_single k o
 
 -- operands of these kinds
