@@ -171,25 +171,34 @@ fn forms(alloc: Global) -> Made<Exprs> {
     )
 }
 
+fn items_of(expr: &Expr) -> usize {
+    match &expr.form {
+        ExprForm::Tuple(items) => items.len(),
+        _ => 0,
+    }
+}
+
 #[test]
 fn all_forms_are_copied(rt: HostRuntime) -> Result<(), Fail> {
-    let all = exprs::tuple(rt.alloc(), HERE, forms(rt.alloc()))?;
-    let copy = all.get().copy(rt.alloc())?;
-    match &copy.form {
-        ExprForm::Tuple(items) => assert_eq!(rt; items.len(), 20),
-        _ => assert!(rt; false),
-    }
+    let copy = copied(rt.alloc(), exprs::tuple(rt.alloc(), HERE, forms(rt.alloc())))?;
+    assert_eq!(rt; items_of(&copy), 20);
     Ok(())
+}
+
+fn parts_of(pattern: &Pattern) -> usize {
+    match &pattern.form {
+        PatternForm::Tuple(items) => items.len(),
+        _ => 0,
+    }
 }
 
 #[test]
 fn all_patterns_are_copied(rt: HostRuntime) -> Result<(), Fail> {
-    let all = patterns::tuple(rt.alloc(), HERE, all_patterns(rt.alloc()))?;
-    let copy = all.get().copy(rt.alloc())?;
-    match &copy.form {
-        PatternForm::Tuple(items) => assert_eq!(rt; items.len(), 7),
-        _ => assert!(rt; false),
-    }
+    let copy = copied(
+        rt.alloc(),
+        patterns::tuple(rt.alloc(), HERE, all_patterns(rt.alloc())),
+    )?;
+    assert_eq!(rt; parts_of(&copy), 7);
     Ok(())
 }
 
@@ -210,12 +219,14 @@ fn module(alloc: Global) -> Made<Module> {
     })
 }
 
+fn is_module(module: &Module) -> bool {
+    module.defs.len() == 1 && module.exports.len() == 1 && module.long == Some((HERE, 256))
+}
+
 #[test]
 fn a_module_is_copied(rt: HostRuntime) -> Result<(), Fail> {
     let copy = module(rt.alloc())?.copy(rt.alloc())?;
-    assert_eq!(rt; copy.defs.len(), 1);
-    assert_eq!(rt; copy.exports.len(), 1);
-    assert_eq!(rt; copy.long, Some((HERE, 256)));
+    assert!(rt; is_module(&copy));
     Ok(())
 }
 
@@ -223,33 +234,66 @@ fn copied<T: CoreCopy + Drop>(alloc: Global, item: Made<Boxed<T>>) -> Made<T> {
     item?.get().copy(alloc)
 }
 
+fn is_var(expr: &Expr) -> bool {
+    matches!(&expr.form, ExprForm::Var(_))
+}
+
 #[test]
-fn each_kind_is_copied_alone(rt: HostRuntime) -> Result<(), Fail> {
-    let alloc = rt.alloc();
-    assert!(rt; matches!(&copied(alloc, x(alloc))?.form, ExprForm::Var(_)));
-    assert!(rt; matches!(&copied(alloc, one(alloc))?.form, PatternForm::Literal(_)));
-    assert!(rt; copied(alloc, part(alloc))?.exact);
-    assert_eq!(rt; copied(alloc, segment(alloc))?.place, HERE);
+fn an_expression_is_copied_alone(rt: HostRuntime) -> Result<(), Fail> {
+    let copy = copied(rt.alloc(), x(rt.alloc()))?;
+    assert!(rt; is_var(&copy));
     Ok(())
 }
 
 #[test]
-fn each_kind_of_a_pattern_is_copied_alone(rt: HostRuntime) -> Result<(), Fail> {
-    let alloc = rt.alloc();
-    assert!(rt;
-        matches!(
-            &copied(alloc, key_pattern(alloc))?.pattern.form,
-            PatternForm::Literal(_)
-        )
-    );
-    assert_eq!(rt; copied(alloc, seg_pattern(alloc))?.place, HERE);
+fn a_part_of_a_map_is_copied_alone(rt: HostRuntime) -> Result<(), Fail> {
+    let copy = copied(rt.alloc(), part(rt.alloc()))?;
+    assert!(rt; copy.exact);
     Ok(())
 }
 
 #[test]
-fn lists_are_copied(rt: HostRuntime) -> Result<(), Fail> {
-    let alloc = rt.alloc();
-    assert_eq!(rt; clauses(alloc)?.copy(alloc)?.len(), 1);
-    assert_eq!(rt; defs(alloc)?.copy(alloc)?.len(), 1);
+fn a_segment_is_copied_alone(rt: HostRuntime) -> Result<(), Fail> {
+    let copy = copied(rt.alloc(), segment(rt.alloc()))?;
+    assert_eq!(rt; copy.place, HERE);
+    Ok(())
+}
+
+fn is_literal(pattern: &Pattern) -> bool {
+    matches!(&pattern.form, PatternForm::Literal(_))
+}
+
+#[test]
+fn a_pattern_is_copied_alone(rt: HostRuntime) -> Result<(), Fail> {
+    let copy = copied(rt.alloc(), one(rt.alloc()))?;
+    assert!(rt; is_literal(&copy));
+    Ok(())
+}
+
+#[test]
+fn a_key_is_copied_alone(rt: HostRuntime) -> Result<(), Fail> {
+    let copy = copied(rt.alloc(), key_pattern(rt.alloc()))?;
+    assert!(rt; is_literal(&copy.pattern));
+    Ok(())
+}
+
+#[test]
+fn a_segment_of_a_pattern_is_copied_alone(rt: HostRuntime) -> Result<(), Fail> {
+    let copy = copied(rt.alloc(), seg_pattern(rt.alloc()))?;
+    assert_eq!(rt; copy.place, HERE);
+    Ok(())
+}
+
+#[test]
+fn clauses_are_copied(rt: HostRuntime) -> Result<(), Fail> {
+    let copy = clauses(rt.alloc())?.copy(rt.alloc())?;
+    assert_eq!(rt; copy.len(), 1);
+    Ok(())
+}
+
+#[test]
+fn definitions_are_copied(rt: HostRuntime) -> Result<(), Fail> {
+    let copy = defs(rt.alloc())?.copy(rt.alloc())?;
+    assert_eq!(rt; copy.len(), 1);
     Ok(())
 }

@@ -156,19 +156,32 @@ fn bytes_of(alloc: Global, a: &AsmModule) -> Result<Bytes, NoMemory>
 }
 
 #[test]
-fn modules_have_these_texts(rt: HostRuntime) -> Result<(), Fail> {
-    let alloc = rt.alloc();
-    let empty = bytes_of(alloc, &empty(alloc)?)?;
-    let one = bytes_of(alloc, &one(alloc)?)?;
-    let sources = bytes_of(alloc, &sources(alloc)?)?;
-    let beyond = encoded(alloc, &['a', 'é', '€', '𝄞'])?;
-    for (bytes, want) in [
-        (empty, EMPTY),
-        (one, ONE),
-        (sources, SOURCES),
-        (beyond, "aé€𝄞"),
-    ] {
-        assert!(rt; bytes.as_slice() == want.as_bytes());
-    }
+fn an_empty_module_has_this_text(rt: HostRuntime) -> Result<(), Fail> {
+    let module = empty(rt.alloc())?;
+    let bytes = bytes_of(rt.alloc(), &module)?;
+    assert!(rt; bytes.as_slice() == EMPTY.as_bytes());
+    Ok(())
+}
+
+#[test]
+fn a_module_of_one_function_has_this_text(rt: HostRuntime) -> Result<(), Fail> {
+    let module = one(rt.alloc())?;
+    let bytes = bytes_of(rt.alloc(), &module)?;
+    assert!(rt; bytes.as_slice() == ONE.as_bytes());
+    Ok(())
+}
+
+#[test]
+fn sources_have_this_text(rt: HostRuntime) -> Result<(), Fail> {
+    let module = sources(rt.alloc())?;
+    let bytes = bytes_of(rt.alloc(), &module)?;
+    assert!(rt; bytes.as_slice() == SOURCES.as_bytes());
+    Ok(())
+}
+
+#[test]
+fn characters_have_these_bytes(rt: HostRuntime) -> Result<(), Fail> {
+    let bytes = encoded(rt.alloc(), &['a', 'é', '€', '𝄞'])?;
+    assert!(rt; bytes.as_slice() == "aé€𝄞".as_bytes());
     Ok(())
 }

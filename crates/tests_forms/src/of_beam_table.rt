@@ -77,19 +77,39 @@ fn copied_unit(alloc: Global) -> Result<u32, NoMemory> {
     Ok(segment.copy(alloc)?.unit)
 }
 
-#[test]
-fn operands_are_copied(rt: HostRuntime) -> Result<(), Fail> {
-    let alloc = rt.alloc();
-    assert!(rt; copied_arity(alloc)? == 2);
-    assert!(rt; is_seven(&copied_key(alloc)?));
-    assert!(rt; copied_target(alloc)? == Reg::Y(3));
-    assert!(rt; copied_label(alloc)? == LabelId(9));
-    assert!(rt; copied_unit(alloc)? == 8);
-    assert!(rt; copied_choice(alloc)?.size == 2 && copied_choice(alloc)?.label == LabelId(6));
-    match copied_items(alloc)? {
-        Insn::PutTuple2(_, items) => assert_eq!(rt; items.len(), 1),
-        _ => assert!(rt; false),
+fn has_one_item(insn: &Insn) -> bool {
+    match insn {
+        Insn::PutTuple2(_, items) => items.len() == 1,
+        _ => false,
     }
+}
+
+#[test]
+fn functions_are_copied(rt: HostRuntime) -> Result<(), Fail> {
+    assert_eq!(rt; copied_arity(rt.alloc())?, 2);
+    Ok(())
+}
+
+#[test]
+fn keys_are_copied(rt: HostRuntime) -> Result<(), Fail> {
+    let key = copied_key(rt.alloc())?;
+    assert!(rt; is_seven(&key));
+    Ok(())
+}
+
+#[test]
+fn flat_operands_are_copied(rt: HostRuntime) -> Result<(), Fail> {
+    assert_eq!(rt; copied_target(rt.alloc())?, Reg::Y(3));
+    assert_eq!(rt; copied_label(rt.alloc())?, LabelId(9));
+    assert_eq!(rt; copied_unit(rt.alloc())?, 8);
+    assert_eq!(rt; copied_choice(rt.alloc())?.label, LabelId(6));
+    Ok(())
+}
+
+#[test]
+fn items_are_copied(rt: HostRuntime) -> Result<(), Fail> {
+    let copy = copied_items(rt.alloc())?;
+    assert!(rt; has_one_item(&copy));
     Ok(())
 }
 
@@ -139,16 +159,43 @@ fn is_own_code(code: &Insns) -> bool {
     }
 }
 
+fn is_own(fun: &AsmFun) -> bool {
+    fun.key.name.as_str() == "f"
+        && fun.key.arity == 3
+        && fun.info == LabelId(1)
+        && fun.entry == LabelId(2)
+        && fun.code.len() == 1
+        && is_own_code(&fun.code)
+}
+
+fn is_module(module: &AsmModule) -> bool {
+    match module.funs.as_slice() {
+        [fun] => is_own(fun) && module.name.as_str() == "m",
+        _ => false,
+    }
+}
+
 #[test]
 fn modules_are_copied(rt: HostRuntime) -> Result<(), Fail> {
-    let alloc = rt.alloc();
-    let copy = copied_module(alloc)?;
-    let funs = copy.funs.as_slice();
-    assert!(rt; copy.name.as_str() == "m" && funs.len() == 1);
-    assert!(rt; funs[0].key.name.as_str() == "f" && funs[0].key.arity == 3);
-    assert!(rt; funs[0].info == LabelId(1) && funs[0].entry == LabelId(2));
-    assert!(rt; funs[0].code.len() == 1 && is_own_code(&funs[0].code));
-    assert!(rt; copied_entry(alloc, &copy.funs)? == Some(LabelId(2)));
-    assert!(rt; matches!(copied_insn(alloc)?, Insn::Badmatch(Source::Integer(8))));
+    let copy = copied_module(rt.alloc())?;
+    assert!(rt; is_module(&copy));
+    Ok(())
+}
+
+#[test]
+fn functions_of_modules_are_copied(rt: HostRuntime) -> Result<(), Fail> {
+    let module = module(rt.alloc())?;
+    assert_eq!(rt; copied_entry(rt.alloc(), &module.funs)?, Some(LabelId(2)));
+    Ok(())
+}
+
+fn is_eight(insn: &Insn) -> bool {
+    matches!(insn, Insn::Badmatch(Source::Integer(8)))
+}
+
+#[test]
+fn instructions_are_copied(rt: HostRuntime) -> Result<(), Fail> {
+    let copy = copied_insn(rt.alloc())?;
+    assert!(rt; is_eight(&copy));
     Ok(())
 }

@@ -85,6 +85,13 @@ fn copies_of_operands(rt: HostRuntime) -> Result<(), Fail> {
     Ok(())
 }
 
+fn are_five(args: &[Arg]) -> bool {
+    match args {
+        [Arg::Var(VarId(0)), _, _, _, Arg::Var(VarId(4))] => true,
+        _ => false,
+    }
+}
+
 // The fifth operand no longer stands in the list itself.
 #[test]
 fn copies_of_five_operands(rt: HostRuntime) -> Result<(), Fail> {
@@ -94,10 +101,14 @@ fn copies_of_five_operands(rt: HostRuntime) -> Result<(), Fail> {
         args.push(Arg::Var(VarId(var)))?;
     }
     let copy: Args = Duplicate::copy(&args, alloc)?;
-    assert_eq!(rt; copy.len(), 5);
-    assert!(rt; matches!(copy.as_slice().first(), Some(Arg::Var(VarId(0)))));
-    assert!(rt; matches!(copy.as_slice().last(), Some(Arg::Var(VarId(4)))));
+    assert!(rt; are_five(copy.as_slice()));
     Ok(())
+}
+
+fn is_checking(set: &Set) -> bool {
+    set.dst == Some(VarId(1))
+        && matches!(&set.op, Op::Check(Check::IsTaggedTuple(5, _)))
+        && matches!(set.args.as_slice().first(), Some(Arg::Var(VarId(0))))
 }
 
 #[test]
@@ -106,9 +117,7 @@ fn copies_of_sets(rt: HostRuntime) -> Result<(), Fail> {
     let name = Name::from_text(alloc, "DOWN")?;
     let checking = set(alloc, 1, Op::Check(Check::IsTaggedTuple(5, name)), 0)?;
     let copy: Set = Duplicate::copy(&checking, alloc)?;
-    assert_eq!(rt; copy.dst, Some(VarId(1)));
-    assert!(rt; matches!(copy.op, Op::Check(Check::IsTaggedTuple(5, _))));
-    assert!(rt; matches!(copy.args.as_slice().first(), Some(Arg::Var(VarId(0)))));
+    assert!(rt; is_checking(&copy));
     Ok(())
 }
 
@@ -118,6 +127,13 @@ fn copies_of_checks(rt: HostRuntime) -> Result<(), Fail> {
     let copy = Check::TestArity(3).copy(alloc)?;
     assert!(rt; matches!(copy, Check::TestArity(3)));
     Ok(())
+}
+
+fn builds(op: &Op, field: Field) -> bool {
+    match op {
+        Op::BsCreate(fields) => fields.as_slice().first().copied() == Some(field),
+        _ => false,
+    }
 }
 
 #[test]
@@ -135,12 +151,16 @@ fn copies_of_fields(rt: HostRuntime) -> Result<(), Fail> {
     let mut fields: Fields = List::new(alloc);
     fields.push(field)?;
     let made = Op::BsCreate(fields).copy(alloc)?;
-    if let Op::BsCreate(copied) = made {
-        assert_eq!(rt; copied.as_slice().first().copied(), Some(field));
-        return Ok(());
-    }
-    assert!(rt; false);
+    assert!(rt; builds(&made, field));
     Ok(())
+}
+
+fn is_phi(phi: &Phi) -> bool {
+    phi.dst == VarId(4)
+        && matches!(
+            phi.from.as_slice().first(),
+            Some((BlockId(3), Arg::Lit(Term::Nil)))
+        )
 }
 
 #[test]
@@ -153,14 +173,17 @@ fn copies_of_phis(rt: HostRuntime) -> Result<(), Fail> {
         from,
     };
     let copy: Phi = Duplicate::copy(&phi, alloc)?;
-    assert_eq!(rt; copy.dst, VarId(4));
-    assert!(rt;
-        matches!(
-            copy.from.as_slice().first(),
-            Some((BlockId(3), Arg::Lit(Term::Nil)))
-        )
-    );
+    assert!(rt; is_phi(&copy));
     Ok(())
+}
+
+fn is_switch(last: &Last) -> bool {
+    match last {
+        Last::Switch(Arg::Var(VarId(5)), BlockId(1), choices) => {
+            matches!(choices.as_slice().first(), Some((Term::Nil, BlockId(2))))
+        }
+        _ => false,
+    }
 }
 
 #[test]
@@ -170,10 +193,6 @@ fn copies_of_lasts(rt: HostRuntime) -> Result<(), Fail> {
     choices.push((Term::Nil, BlockId(2)))?;
     let last = Last::Switch(Arg::Var(VarId(5)), BlockId(1), choices);
     let copy: Last = Duplicate::copy(&last, alloc)?;
-    if let Last::Switch(Arg::Var(VarId(5)), BlockId(1), copied) = copy {
-        assert!(rt; matches!(copied.as_slice().first(), Some((Term::Nil, BlockId(2)))));
-        return Ok(());
-    }
-    assert!(rt; false);
+    assert!(rt; is_switch(&copy));
     Ok(())
 }

@@ -112,19 +112,26 @@ fn module_of(alloc: Global, expr: KExpr) -> Result<Kernel, NoMemory> {
     })
 }
 
+fn copied_module(alloc: Global) -> Result<Kernel, NoMemory> {
+    let tree = nodes(alloc, 4)?;
+    module_of(alloc, match_in(tree))?.copy(alloc)
+}
+
+fn is_module(copy: &Kernel) -> bool {
+    match copy.funs.as_slice() {
+        [fun] => {
+            matches!(&fun.body, KExpr::Match(Tree::Either(3, _, _)))
+                && copy.name.as_str() == "m"
+                && copy.exports.len() == 1
+        }
+        _ => false,
+    }
+}
+
 #[test]
 fn modules_are_copied(rt: HostRuntime) -> Result<(), Fail> {
-    let alloc = rt.alloc();
-    let tree = nodes(alloc, 4)?;
-    let kernel = module_of(alloc, match_in(tree))?;
-    let copy = kernel.copy(alloc)?;
-    drop(kernel);
-    assert!(rt; copy.name.as_str() == "m");
-    assert_eq!(rt; copy.exports.len(), 1);
-    match copy.funs.as_slice() {
-        [fun] => assert!(rt; matches!(&fun.body, KExpr::Match(Tree::Either(3, _, _)))),
-        _ => assert!(rt; false),
-    }
+    let copy = copied_module(rt.alloc())?;
+    assert!(rt; is_module(&copy));
     Ok(())
 }
 
@@ -178,15 +185,17 @@ fn is_keyed(pat: &KPat) -> bool {
     }
 }
 
+fn is_row(row: &Row) -> bool {
+    match row.pats.as_slice() {
+        [pat] => is_keyed(pat) && matches!(&row.body, KExpr::Values(values) if values.len() == 2),
+        _ => false,
+    }
+}
+
 #[test]
 fn clauses_are_copied(rt: HostRuntime) -> Result<(), Fail> {
     let copy = row_of(rt.alloc())?.copy(rt.alloc())?;
-    assert_eq!(rt; copy.pats.len(), 1);
-    match copy.pats.as_slice() {
-        [pat] => assert!(rt; is_keyed(pat)),
-        _ => assert!(rt; false),
-    }
-    assert!(rt; matches!(&copy.body, KExpr::Values(values) if values.len() == 2));
+    assert!(rt; is_row(&copy));
     Ok(())
 }
 
@@ -252,17 +261,19 @@ fn one_row(alloc: Global) -> Result<Tree, NoMemory> {
     Ok(segments(VarId(3), rows, boxed_tree(alloc, fall(0))?))
 }
 
+fn is_tried(expr: &KExpr) -> bool {
+    match expr {
+        KExpr::Try(tried, _, _, caught, handler) => {
+            matches!(tried.get(), KExpr::Catch(_)) && caught.len() == 1 && is_waiting(handler.get())
+        }
+        _ => false,
+    }
+}
+
 #[test]
 fn all_forms_are_copied(rt: HostRuntime) -> Result<(), Fail> {
     let copy = tried(rt.alloc())?.copy(rt.alloc())?;
-    match &copy {
-        KExpr::Try(tried, _, _, caught, handler) => {
-            assert!(rt; matches!(tried.get(), KExpr::Catch(_)));
-            assert_eq!(rt; caught.len(), 1);
-            assert!(rt; is_waiting(handler.get()));
-        }
-        _ => assert!(rt; false),
-    }
+    assert!(rt; is_tried(&copy));
     Ok(())
 }
 
