@@ -13,6 +13,7 @@
 //! program.
 #![tactic(auto)]
 
+mod answers;
 mod calls;
 mod forms;
 mod print;
@@ -32,6 +33,7 @@ enum Kind {
     Print,
     Calls,
     Values,
+    Answers,
 }
 
 fn show(rt: &HostRuntime, kind: Kind, row: &str) -> Result<(), Fail> {
@@ -42,6 +44,7 @@ fn show(rt: &HostRuntime, kind: Kind, row: &str) -> Result<(), Fail> {
         Kind::Print => print::show(rt, row),
         Kind::Calls => calls::show(rt, row),
         Kind::Values => values::show(rt, row),
+        Kind::Answers => answers::show(rt, row),
     }
 }
 
@@ -62,5 +65,6 @@ fn main(rt: HostRuntime) -> Result<(), Fail> {
     show_all(&rt, Kind::Forms, "forms.rows")?;
     show_all(&rt, Kind::Print, "print.rows")?;
     show_all(&rt, Kind::Calls, "calls.rows")?;
-    show_all(&rt, Kind::Values, "values.rows")
+    show_all(&rt, Kind::Values, "values.rows")?;
+    show_all(&rt, Kind::Answers, "answers.rows")
 }

@@ -1,21 +1,28 @@
 //! Measures calls over a file, for `bin/bench`: `measure tokens FILE` tells how many tokens a text has, `measure term
-//! FILE` how many bytes the printed text of a term has. With `timed` in front it tells what each step took, in
+//! FILE` how many bytes the printed text of a term has, `measure values FILE` how its two copies compare, how many
+//! steps along it found an item, and two sums of its integers. With `timed` in front it tells what each step took, in
 //! microseconds, and what the system says of the process, which has the most memory that it took (`VmHWM`).
 #![tactic(auto)]
 
 mod clock;
 mod terms;
 mod tokens;
+mod values;
 
 use clock::Clock;
 use std::{env, io};
 
-const USAGE: &str = "usage: measure [timed] tokens FILE, measure [timed] term FILE";
+const USAGE: &str =
+    "usage: measure [timed] tokens FILE, measure [timed] term FILE, measure [timed] values FILE";
 
 fn measured(rt: &HostRuntime, subject: &str, clock: &mut Clock, text: &[u8]) -> io::Result<()> {
     match subject {
         "tokens" => tokens::measure(rt, clock, text),
         "term" => terms::measure(rt, clock, text),
+        "values" => match values::measure(rt, clock, text) {
+            Ok(()) => Ok(()),
+            Err(_) => Ok(println!(rt; "refused")?),
+        },
         _ => {
             println!(rt; "{USAGE}")?;
             Ok(())

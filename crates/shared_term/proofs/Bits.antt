@@ -17,7 +17,7 @@ use Rattle.shared_term.specs.declared.value.BitRange.{BitRange}
 use Rattle.shared_term.specs.declared.value.Value.{Value}
 use Rattle.shared_term.specs.declared.value.Value.TheVariants as V
 use Rattle.shared_term.specs.Octets.{octet}
-use Rattle.shared_term.specs.Parts.{slice_of}
+use Rattle.shared_term.specs.Parts.{slice_of, bit_count_of}
 use Rattle.shared_term.specs.View.{Reading, reading, view, range_view, is_within, IsWhole}
 use Rattle.shared_term.proofs.Forms.{bits-out}
 use Rattle.shared_term.proofs.OctetBits.{octets_step, bits_end, one_more, Holds, held_view, held_full}
@@ -43,6 +43,12 @@ pub range_length : (b : BitRange) → b.from + b.length ≤ 8 * length b.bytes.v
 range_length b h =
     length-take-le b.length (drop b.from (byte_bits b.bytes.value))
     (omega (arith, length-drop b.from (byte_bits b.bytes.value), length-byte_bits b.bytes.value))
+
+-- how many bits it has
+pub bits_counted : (v : Value) (b : BitRange) → v ≡ V.Bits b → IsWhole v → Some b.length ≡ bit_count_of (view v)
+bits_counted v b e h =
+    ap Some (sym (range_length b (within v b e h)))
+    ∙ ap (λ (q : Reading). bit_count_of q.term) (sym (bits-out v b e))
 
 -- a part of a range
 abbrev pub IsPart : BitRange → ℕ → ℕ → BitRange → Type 0

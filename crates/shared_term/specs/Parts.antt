@@ -3,6 +3,7 @@ use Rattle.std.specs.Prelude.{ℕ, ◌+◌, List, length, take, drop, slice_get,
 use Rattle.std.specs.Prelude.{if◌then◌else◌}
 use Rattle.erl_term.specs.Term as T
 use Rattle.erl_term.specs.Term.{Term}
+use Rattle.erl_term.specs.TermOrder.{pair_count}
 use Rattle.erl_term.specs.Terms.{listed, value_at, put}
 
 -- the item of a cell
@@ -28,6 +29,22 @@ element_of n t = option_and_then (λ ts. slice_get ts n) (elements_of t)
 abbrev pub captured_of : Term → Option (List Term)
 captured_of (T.fun m s a ts) = Some (listed ts)
 captured_of _ = None
+
+-- how many bits a bit string has
+abbrev pub bit_count_of : Term → Option ℕ
+bit_count_of (T.bits bs) = Some (length bs)
+bit_count_of _ = None
+
+-- how many keys a map has
+abbrev pub key_count_of : Term → Option ℕ
+key_count_of (T.map ps) = Some (pair_count ps)
+key_count_of _ = None
+
+-- how many arguments a fun takes
+abbrev pub fun_arity_of : Term → Option ℕ
+fun_arity_of (T.fun m s a ts) = Some a
+fun_arity_of (T.extern m f a) = Some a
+fun_arity_of _ = None
 
 -- so many bits of a bit string from a bit on, where they stand there
 abbrev pub slice_of : ℕ → ℕ → Term → Option Term

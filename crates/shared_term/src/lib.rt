@@ -13,6 +13,7 @@
 
 mod build;
 mod convert;
+mod counts;
 mod maps;
 mod octets;
 mod order;
