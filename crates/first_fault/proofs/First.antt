@@ -142,3 +142,12 @@ pub first_with_both : (o : Option Refusal) (xs ys : List Refusal)
     → first_with o (xs ++ ys) ≡ first_with (first_with o xs) ys
 first_with_both o [] ys = refl
 first_with_both o (x ∷ xs) ys = first_with_both (Some (earlier o x)) xs ys
+
+-- nothing is kept of no faults alone
+pub none_kept : (faults : List Refusal) (o : Option Refusal) → o ≡ first_with None faults → o ≡ None → faults ≡ []
+none_kept faults o e n = subst (λ r. MatchOption r (faults ≡ []) (IsFirst faults)) (sym e ∙ n) (found faults)
+
+-- what is kept is the first
+pub first_kept : (faults : List Refusal) (o : Option Refusal) (f : Refusal) → o ≡ first_with None faults → o ≡ Some f
+    → IsFirst faults f
+first_kept faults o f e n = subst (λ r. MatchOption r (faults ≡ []) (IsFirst faults)) (sym e ∙ n) (found faults)
