@@ -1,0 +1,6 @@
+mod Flags
+mod Texts
+mod TermForms
+mod Counts
+mod Kept
+mod Examples

@@ -1,0 +1,4 @@
+pub mod ProfileFaults
+pub mod ProfileWalk
+pub mod LimitFaults
+pub mod Readings
