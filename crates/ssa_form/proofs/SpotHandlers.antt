@@ -295,7 +295,7 @@ module _ (spots : Spots) (sizes : List (ℕ × ℕ)) where
 
   deallocated : (f : Option (List Cell)) (n : ℕ) (st u : Stack) → f ≡ st.frame
       → in_frame None f (λ ys. only_if (eqb (length ys) n && no_tags tag_in ys) (record st { frame = None }))
-          ≡ Some u
+      ≡ Some u
       → open_tags u ≡ open_tags st
   deallocated None n st u p e = absurd (none_is u e)
   deallocated (Some ys) n st u p e = let q : ((eqb (length ys) n && no_tags tag_in ys) ≡ true)

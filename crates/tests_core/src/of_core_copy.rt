@@ -180,7 +180,10 @@ fn items_of(expr: &Expr) -> usize {
 
 #[test]
 fn all_forms_are_copied(rt: HostRuntime) -> Result<(), Fail> {
-    let copy = copied(rt.alloc(), exprs::tuple(rt.alloc(), HERE, forms(rt.alloc())))?;
+    let copy = copied(
+        rt.alloc(),
+        exprs::tuple(rt.alloc(), HERE, forms(rt.alloc())),
+    )?;
     assert_eq!(rt; items_of(&copy), 20);
     Ok(())
 }
