@@ -38,7 +38,7 @@ equals_nowhere : (k : TokenKind) → equals_in false k ≡ false
 equals_nowhere (Symbol S.Equals) = refl
 equals_nowhere _ = refl
 
-no_front : (r : List Sign) → front (equals_in false) r ≡ false
+pub no_front : (r : List Sign) → front (equals_in false) r ≡ false
 no_front [] = refl
 no_front (g ∷ gs) = equals_nowhere _
 

@@ -62,7 +62,7 @@ abbrev pub front : (TokenKind → Bool) → List Sign → Bool
 front f [] = false
 front f (g ∷ gs) = f (kind_seen g.sight)
 
-kind_fits : (w : Sight) (t : Token) → Fits w t → t.kind ≡ kind_seen w
+pub kind_fits : (w : Sight) (t : Token) → Fits w t → t.kind ≡ kind_seen w
 kind_fits (of_kind k) t h = h
 kind_fits (at_place p k) t h = h.0
 kind_fits (an_arity n) t h = h.kind
