@@ -8,9 +8,8 @@ use Rattle.core_lex.specs.declared.token.Symbol.TheVariants as S
 use Rattle.core_grammar.specs.WrittenTree.{Tree, variable, noted, Clause, noted_clause}
 use Rattle.core_grammar.specs.Standing.{Sort, pattern, key, note, a_variable, inner_sort, Stands}
 use Rattle.core_grammar.specs.Signs.{Sight, of_kind, at_place, Sign, plain_sign, Fits, weight, key_weight, annotated, token_at, symbol, on}
-use Rattle.core_texts.proofs.Taking.{never}
-use Rattle.core_texts.proofs.Readers.{Head, whole, part}
-use Rattle.core_texts.proofs.Parts.{tree_part, head_part, nil}
+use Rattle.core_texts.proofs.Truths.{never}
+use Rattle.core_texts.proofs.Parts.{Head, whole, part, tree_part, head_part, nil}
 use Rattle.core_texts.proofs.Plans.{Bracket}
 
 abbrev pub is_key : Sort → Bool

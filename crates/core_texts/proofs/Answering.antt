@@ -12,7 +12,7 @@ use Rattle.core_grammar.specs.ModuleOf.{module_of}
 use Rattle.core_grammar.specs.Texts.{ModuleText, BeginsModule, NestsWithin, IsDeeper, FirstSyntaxFault, NestingFault, last_depth, most_depth}
 use Rattle.core_texts.specs.Answers.{Answer, is_text, has_syntax_fault, has_nesting_fault}
 use Rattle.core_texts.proofs.Cuts.{assoc, front_of}
-use Rattle.core_texts.proofs.Taking.{never}
+use Rattle.core_texts.proofs.Truths.{never}
 use Rattle.core_texts.proofs.Overs.{Over, over_more, last_is, over_front, over_whole, Next, next_sign, over_once}
 use Rattle.core_texts.proofs.Parts.{module_part, least}
 use Rattle.core_texts.proofs.Least.{least_right}
@@ -20,24 +20,14 @@ use Rattle.core_texts.proofs.Stacks.{Stack, bottom, State, state, finished, Resu
 use Rattle.core_texts.proofs.Sound.{Good, Sound, Held, IsFinished, Reached, sound_step}
 use Rattle.core_texts.proofs.Complete.{Choice, first_way, second_way, Goes, Went, complete_step}
 use Rattle.core_texts.proofs.Bodies.{body}
-use Rattle.core_texts.proofs.Quick.{quick}
-use Rattle.core_texts.proofs.PartWays.{part_way}
-
--- what goes on behind the tokens
-record Track (before : List Token) (s : State) (m : Written) : Type 0 where
-  pub rest : List Sign
-  pub over : Over before (signs m) rest
-  pub goes : Goes s rest m
+use Rattle.core_texts.proofs.Tracks.{Tracked, start, tracked_start, stepped, tracked_on}
 
 -- a state that these tokens lead to, none of them too deep
 record Led (before : List Token) (s : State) : Type 0 where
   pub good : Good before s
   pub begins : BeginsModule before
   pub within : NestsWithin most_depth before
-  pub tracks : (m : Written) → IsModule m → FitFront (signs m) before → Track before s m
-
-start : State
-start = state (body (module_part 0)) bottom
+  pub tracks : Tracked before s
 
 last_none : (gs : List Sign) → last_depth gs [] ≡ 0
 last_none [] = refl
@@ -55,17 +45,12 @@ nothing_deep [] l e h =
 nothing_deep (x ∷ b) l e h = never (sym (ap is_none e))
 
 led_start : Led [] start
-unfolding start
 led_start = record {
   good = λ a x r m e c. ap (λ w. module_on true 0 w (plain_sign 0 (of_kind End) ∷ [])) (sym c.0)
       ∙ ap (module_on true 0 a) (sym c.1) ∙ e;
   begins = record { written = least (module_part 0); stands = least_right (module_part 0); fits = tt };
   within = nothing_deep;
-  tracks = λ m h f. record {
-    rest = signs m;
-    over = refl;
-    goes = (m, plain_sign 0 (of_kind End) ∷ [], part_way (module_part 0) m h (plain_sign 0 (of_kind End) ∷ []) tt, (refl, refl));
-  };
+  tracks = tracked_start;
 }
 
 -- a beginning of the tokens and one more
@@ -105,36 +90,9 @@ no_deeper before t d w r l b (second_way e) h =
     let i = r.depth in
     absurd (omega (arith, k, i, l))
 
--- one token more of a module
-record Stepped (before : List Token) (t : Token) (o : Result) (m : Written) : Type 0 where
-  pub sign : Sign
-  pub rest : List Sign
-  pub over : Over before (signs m) (sign ∷ rest)
-  pub more : Over (before ++ t ∷ []) (signs m) rest
-  pub went : Went o sign rest m
-
-stepped : (before : List Token) (t : Token) (s : State) → Led before s → (m : Written) → IsModule m
-    → FitFront (signs m) (before ++ t ∷ []) → Stepped before t (step body t s) m
-stepped before t s l m h f =
-    let k = l.tracks m h (front_of (signs m) before (t ∷ []) f) in
-    let n = next_sign before t (signs m) k.rest k.over f in
-    let e = over_once before (signs m) k.rest (n.sign ∷ n.rest) k.over n.over in
-    record {
-      sign = n.sign;
-      rest = n.rest;
-      over = n.over;
-      more = over_more before t (signs m) n.sign n.rest n.over n.fits n.clear;
-      went = complete_step body part_way t n.sign n.rest m n.fits n.clear quick s
-          (subst (λ z. Goes s z m) e k.goes);
-    }
-
 abbrev is_there : Result → Bool
 is_there None = false
 is_there (Some x) = true
-
-abbrev state_or : State → Result → State
-state_or s None = s
-state_or s (Some x) = x.0
 
 abbrev depth_or : ℕ → Result → ℕ
 depth_or d None = d
@@ -143,7 +101,7 @@ depth_or d (Some x) = x.1
 refused : (before : List Token) (t : Token) (s : State) → Led before s → step body t s ≡ None
     → BeginsModule (before ++ t ∷ []) → ⊥
 refused before t s l e b =
-    let x = stepped before t s l b.written b.stands b.fits in
+    let x = stepped before t s l.tracks b.written b.stands b.fits in
     never (ap is_there (sym e ∙ x.went.is))
 
 syntax_fault : (before : List Token) (t : Token) (later : List Token) (s : State) → Led before s
@@ -174,7 +132,7 @@ deeper_everywhere : (before : List Token) (t : Token) (s u : State) (d : ℕ) �
     → step body t s ≡ Some (u, d) → most_depth < d → (m : Written) → IsModule m
     → FitFront (signs m) (before ++ t ∷ []) → most_depth < last_depth (signs m) (before ++ t ∷ [])
 deeper_everywhere before t s u d l e h m i f =
-    let x = stepped before t s l m i f in
+    let x = stepped before t s l.tracks m i f in
     let a = last_is before t (signs m) x.sign x.rest x.over in
     let b = x.went.least_depth in
     let c : d ≡ x.went.depth = ap (depth_or d) (sym e ∙ x.went.is) in
@@ -201,13 +159,7 @@ led_on before t s u d l e o h = record {
   good = o.good;
   begins = reached_begins before t d o.reached;
   within = λ b k i. no_deeper before t d l.within o.reached h b (front_or_all before b k t i);
-  tracks = λ m i f.
-      let x = stepped before t s l m i f in
-      record {
-        rest = x.rest;
-        over = x.more;
-        goes = subst (λ z. Goes z x.rest m) (sym (ap (state_or u) (sym e ∙ x.went.is))) x.went.goes;
-      };
+  tracks = tracked_on before t s u d l.tracks e;
 }
 
 -- where the last token ends a text

@@ -8,8 +8,7 @@ use Rattle.erl_term.specs.Segments.{joined}
 use Rattle.core_form.specs.SourceTree.{are_flags, is_flag}
 use Rattle.core_grammar.specs.WrittenTree.{Tree, Row, none, more, Segments, no_segment, and_segment}
 use Rattle.core_grammar.specs.ConstantTerms.{and_item, constant_list, constant_of, constants_of, is_constant_size, bits_with, bits_written, bits_of, segment_bits}
-use Rattle.core_texts.proofs.Taking.{never}
-use Rattle.core_texts.proofs.Truths.{and_left, and_right, and_in}
+use Rattle.core_texts.proofs.Truths.{never, and_left, and_right, and_in}
 use Rattle.core_texts.proofs.Parts.{there, is_size, is_unit, count_or_none, flags_in, flag_in, all_flags, all_bits}
 
 if_there : {A : Type 0} (b : Bool) (x : A) → b ≡ true → there (if b then Some x else None) ≡ true

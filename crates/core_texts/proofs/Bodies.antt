@@ -9,12 +9,10 @@ use Rattle.core_grammar.specs.WrittenTree.{Spelled, Tree, noted, alias, Row, non
 use Rattle.core_grammar.specs.Standing.{Sort, expression, pattern, constant, note, key, segment_value, a_variable, a_name, an_atom, a_fun, takes_pair, item_sort, key_sort, value_sort, Stands, RowStands, GroupStands, SegmentStands, AttributesStand}
 use Rattle.core_grammar.specs.ConstantTerms.{bits_of, integer_value, count_value, is_integer_kind, constant_of}
 use Rattle.core_grammar.specs.Signs.{Sign, at_place, plain_sign, token_at, symbol, pair_symbol, kept_word, spelled, on, row_on, segment_on, clause_on, attributes_on}
-use Rattle.core_texts.proofs.Readers.{Head, whole, part}
-use Rattle.core_texts.proofs.Reading.{opens, is_comma, is_angle, is_paren, is_when, equals_in}
-use Rattle.core_texts.proofs.Taking.{never}
-use Rattle.core_texts.proofs.Truths.{and_left, and_right, and_in}
+use Rattle.core_texts.proofs.Parts.{Head, whole, part, Part, tree_part, items_part, group_part, pairs_part, segment_part, segments_part, head_part, clause_part, clauses_part, definitions_part, attributes_part, module_part, value_part, size_part, unit_part, kind_part, flags_part, flag_part, flag_items_part, head_on, HeadRight, is_strict, has_bits, all_bits, count_or_none}
+use Rattle.core_texts.proofs.Fronts.{opens, is_comma, is_angle, is_paren, is_when, equals_in}
+use Rattle.core_texts.proofs.Truths.{never, and_left, and_right, and_in}
 use Rattle.core_texts.proofs.Bits.{bits_ok}
-use Rattle.core_texts.proofs.Parts.{Part, tree_part, items_part, group_part, pairs_part, segment_part, segments_part, head_part, clause_part, clauses_part, definitions_part, attributes_part, module_part, value_part, size_part, unit_part, kind_part, flags_part, flag_part, flag_items_part, head_on, HeadRight, is_strict, has_bits, all_bits, count_or_none}
 use Rattle.core_texts.proofs.Plans.{Plan, done, symbol_next, word_next, look, call, bracket, if_next}
 use Rattle.core_texts.proofs.Steps.{atom_plan, angle_plan, open_segment_plan, note_plan, rows, some_definitions_plan, some_attributes_plan}
 use Rattle.core_texts.proofs.Annotated.{as_variable, is_variable_like, like_stands, head_deep, head_sight, head_bracket}

@@ -10,8 +10,8 @@ use Rattle.core_lex.specs.declared.token.Symbol.TheVariants as S
 use Rattle.core_form.specs.SourceTree.{is_arity}
 use Rattle.core_grammar.specs.WrittenTree.{Written}
 use Rattle.core_grammar.specs.Signs.{Sight, of_kind, at_place, an_arity, Sign, plain_sign, Fits, IsArityToken}
-use Rattle.core_texts.proofs.Taking.{never, front, kind_seen, kind_fits}
-use Rattle.core_texts.proofs.Truths.{and_in}
+use Rattle.core_texts.proofs.Truths.{never, and_in}
+use Rattle.core_texts.proofs.Fronts.{front, kind_seen, kind_fits}
 use Rattle.core_texts.proofs.TokenTests.{is_symbol, same_symbol_self, is_word, same_word_self, is_end}
 use Rattle.core_texts.proofs.Parts.{Part, module_part, Value, signs_of, Right, least, Follows}
 use Rattle.core_texts.proofs.Plans.{Plan, done, symbol_next, word_next, arity_next, look, call, bracket, if_next, symbol_sign, Bracket, Looked}

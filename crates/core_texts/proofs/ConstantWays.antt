@@ -9,8 +9,7 @@ use Rattle.core_grammar.specs.WrittenTree.{Tree, atom, number, wide, character, 
 use Rattle.core_grammar.specs.Standing.{constant, an_atom, note, Stands, RowStands}
 use Rattle.core_grammar.specs.ConstantTerms.{and_item, constant_list, constant_tuple, constant_map, constant_bits, constant_of, constants_of, constant_pairs_of, segment_bits, character_terms}
 use Rattle.core_grammar.specs.Signs.{Sign, symbol, on, row_on}
-use Rattle.core_texts.proofs.Taking.{never}
-use Rattle.core_texts.proofs.Truths.{and_left, and_right, and_in}
+use Rattle.core_texts.proofs.Truths.{never, and_left, and_right, and_in}
 use Rattle.core_texts.proofs.Opens.{opens_tree}
 use Rattle.core_texts.proofs.Bits.{all_of_flags, tail_flags}
 use Rattle.core_texts.proofs.Parts.{Part, value_part, size_part, unit_part, kind_part, flags_part, flag_part, flag_items_part, Right, Follows, flags_in, flag_in, all_flags}

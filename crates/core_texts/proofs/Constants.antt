@@ -14,9 +14,8 @@ use Rattle.core_grammar.specs.WrittenTree.{Tree, atom, number, wide, character, 
 use Rattle.core_grammar.specs.Standing.{constant, an_atom, note, is_code, Stands, RowStands}
 use Rattle.core_grammar.specs.ConstantTerms.{constant_of, count_value, integer_value}
 use Rattle.core_grammar.specs.Signs.{Sign, at_place, plain_sign, token_at, symbol, on, row_on}
-use Rattle.core_texts.proofs.Reading.{opens, is_bar, is_comma}
-use Rattle.core_texts.proofs.Taking.{never}
-use Rattle.core_texts.proofs.Truths.{and_left, and_right, and_in}
+use Rattle.core_texts.proofs.Fronts.{opens, is_bar, is_comma}
+use Rattle.core_texts.proofs.Truths.{never, and_left, and_right, and_in}
 use Rattle.core_texts.proofs.Bits.{flags_list}
 use Rattle.core_texts.proofs.Parts.{Part, value_part, size_part, unit_part, kind_part, flags_part, flag_part, flag_items_part, is_unit, flags_in, all_flags, here}
 use Rattle.core_texts.proofs.Plans.{Plan, done, symbol_next, look, call, if_next, Looked}

@@ -61,3 +61,9 @@ pub over_once : (ts : List Token) (gs x y : List Sign) → Over ts gs x → Over
 over_once [] gs x y o p = sym o ∙ p
 over_once (t ∷ ts) gs x y o p =
     over_once ts o.1 x y o.5 (subst (λ l. Over ts l y) (sym (ap rest_of (sym o.2 ∙ p.2))) p.5)
+
+pub all_over : (ts : List Token) (gs x : List Sign) → Over ts gs x → FitWhole gs ts → x ≡ []
+all_over [] [] x o h = sym o
+all_over [] (g ∷ gs) x o h = absurd h
+all_over (t ∷ ts) [] x o h = absurd h
+all_over (t ∷ ts) (g ∷ gs) x o h = all_over ts gs x (over_rest t ts g gs x o) h.2

@@ -13,13 +13,11 @@ use Rattle.core_grammar.specs.WrittenTree.{Spelled, Tree, variable, atom, number
 use Rattle.core_grammar.specs.Standing.{Sort, expression, pattern, constant, note, key, segment_value, a_variable, a_name, an_atom, a_fun, takes_alias, takes_pair, item_sort, key_sort, value_sort, Stands, RowStands, PairsStand, SegmentStands, DefinitionsStand, AttributesStand, IsModule}
 use Rattle.core_grammar.specs.ConstantTerms.{constant_of, integer_value, count_value, is_integer_kind, bits_of}
 use Rattle.core_grammar.specs.Signs.{Sign, at_place, of_kind, Fits, plain_sign, symbol, kept_word, token_at, pair_symbol, on, row_on, pairs_on, clause_on, definitions_on, attributes_on, module_on}
-use Rattle.core_texts.proofs.Readers.{Head, whole, part}
-use Rattle.core_texts.proofs.Reading.{opens, is_comma, is_angle, is_paren, is_when, equals_in}
-use Rattle.core_texts.proofs.Taking.{never, front}
-use Rattle.core_texts.proofs.Truths.{and_left, and_right, and_in}
+use Rattle.core_texts.proofs.Parts.{Head, whole, part, Part, tree_part, items_part, group_part, pairs_part, segment_part, segments_part, head_part, clause_part, clauses_part, definitions_part, attributes_part, module_part, value_part, size_part, unit_part, kind_part, flags_part, flag_part, flag_items_part, Value, signs_of, Right, Follows, head_on, HeadRight, is_strict, has_bits, all_bits, count_or_none, all_flags, flags_in}
+use Rattle.core_texts.proofs.Fronts.{opens, is_comma, is_angle, is_paren, is_when, equals_in, front}
+use Rattle.core_texts.proofs.Truths.{never, and_left, and_right, and_in}
 use Rattle.core_texts.proofs.Opens.{no_front, opens_tree, opens_segment, opens_clause, opened}
 use Rattle.core_texts.proofs.Bits.{parted, all_of_flags, tail_flags}
-use Rattle.core_texts.proofs.Parts.{Part, tree_part, items_part, group_part, pairs_part, segment_part, segments_part, head_part, clause_part, clauses_part, definitions_part, attributes_part, module_part, value_part, size_part, unit_part, kind_part, flags_part, flag_part, flag_items_part, Value, signs_of, Right, Follows, head_on, HeadRight, is_strict, has_bits, all_bits, count_or_none, all_flags, flags_in}
 use Rattle.core_texts.proofs.Plans.{Plan, look}
 use Rattle.core_texts.proofs.Annotated.{is_variable_like, variable_stands, variable_like, as_variable, like_stands}
 use Rattle.core_texts.proofs.Complete.{Along, Choice, first_way, second_way}

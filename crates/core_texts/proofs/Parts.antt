@@ -10,9 +10,12 @@ use Rattle.core_grammar.specs.WrittenTree.{Spelled, Tree, variable, atom, number
 use Rattle.core_grammar.specs.Standing.{Sort, expression, pattern, constant, note, key, segment_value, a_variable, a_name, an_atom, a_fun, takes_alias, item_sort, key_sort, Stands, RowStands, GroupStands, takes_pair, PairsStand, SegmentStands, SegmentsStand, ClauseStands, ClausesStand, DefinitionsStand, AttributesStand, IsModule}
 use Rattle.core_grammar.specs.ConstantTerms.{constant_of, constants_of, integer_value, count_value, is_integer_kind, is_constant_size, bits_of}
 use Rattle.core_grammar.specs.Signs.{Sign, on, row_on, group_on, pairs_on, segment_on, segments_on, clause_on, clauses_on, definitions_on, attributes_on, module_on}
-use Rattle.core_texts.proofs.Readers.{Head, whole, part}
-use Rattle.core_texts.proofs.Reading.{is_slash, is_comma, is_when, equals_in, opens}
-use Rattle.core_texts.proofs.Taking.{front}
+use Rattle.core_texts.proofs.Fronts.{is_slash, is_comma, is_when, equals_in, opens, front}
+
+-- what begins a clause: all of it, or its only pattern
+pub data Head : Type 0 where
+  whole : Clause → Head
+  part : Tree → Head
 
 -- items, pairs, segments, clauses, definitions and attributes are at least one
 pub data Part : Type 0 where

@@ -11,8 +11,7 @@ use Rattle.core_grammar.specs.WrittenTree.{Written}
 use Rattle.core_grammar.specs.Standing.{IsModule}
 use Rattle.core_grammar.specs.Signs.{Sight, of_kind, at_place, an_arity, Sign, plain_sign, Fits, signs}
 use Rattle.core_grammar.specs.Texts.{last_depth}
-use Rattle.core_texts.proofs.Taking.{never}
-use Rattle.core_texts.proofs.Truths.{and_left, and_right}
+use Rattle.core_texts.proofs.Truths.{never, and_left, and_right}
 use Rattle.core_texts.proofs.TokenTests.{is_symbol, is_symbol_is, is_word, is_word_is, is_end, is_end_is}
 use Rattle.core_texts.proofs.Parts.{Part, module_part, Value, signs_of, Right, least}
 use Rattle.core_texts.proofs.Least.{least_right}

@@ -9,8 +9,8 @@ use Rattle.core_lex.specs.declared.token.Symbol.TheVariants as S
 use Rattle.core_grammar.specs.WrittenTree.{Spelled, Tree, Row, none, more, Pairs, no_pair, pair, Segments, no_segment, and_segment, Clauses, no_clause, and_clause, Definitions, no_definition, definition, Attributes, no_attribute, attribute}
 use Rattle.core_grammar.specs.Standing.{Sort, note, Stands, RowStands, PairsStand, SegmentsStand, ClausesStand, DefinitionsStand, AttributesStand}
 use Rattle.core_grammar.specs.Signs.{Sign, at_place, plain_sign, spelled, token_at, symbol, on, row_on, pairs_on, segments_on, clauses_on, definitions_on, attributes_on}
-use Rattle.core_texts.proofs.Reading.{opens, is_angle}
-use Rattle.core_texts.proofs.Taking.{never}
+use Rattle.core_texts.proofs.Fronts.{opens, is_angle}
+use Rattle.core_texts.proofs.Truths.{never}
 use Rattle.core_texts.proofs.Parts.{Part, tree_part, items_part, pairs_part, segments_part, clauses_part, definitions_part, attributes_part, here, is_strict, all_bits}
 use Rattle.core_texts.proofs.Plans.{Plan, symbol_next, look, call, if_next, Looked}
 

@@ -7,7 +7,7 @@ use Rattle.core_lex.specs.declared.token.Word as Words
 use Rattle.core_lex.specs.declared.token.Word.TheVariants as W
 use Rattle.core_lex.specs.declared.token.Symbol as Symbols
 use Rattle.core_lex.specs.declared.token.Symbol.TheVariants as S
-use Rattle.core_texts.proofs.Taking.{never}
+use Rattle.core_texts.proofs.Truths.{never}
 
 abbrev pub same_symbol : Symbols.Symbol → Symbols.Symbol → Bool
 same_symbol S.Arrow S.Arrow = true

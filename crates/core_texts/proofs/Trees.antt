@@ -15,9 +15,8 @@ use Rattle.core_grammar.specs.WrittenTree.{Spelled, Tree, variable, atom, number
 use Rattle.core_grammar.specs.Standing.{Sort, expression, pattern, constant, note, key, segment_value, a_variable, a_name, an_atom, a_fun, takes_variable, takes_constant, takes_integer, takes_atom, takes_list, takes_name, takes_fun, takes_expression, takes_binary, inner_sort, item_sort, key_sort, is_code, Stands, RowStands, PairsStand, SegmentsStand}
 use Rattle.core_grammar.specs.ConstantTerms.{bits_of_segments}
 use Rattle.core_grammar.specs.Signs.{Sign, of_kind, at_place, an_arity, plain_sign, weight, key_weight, symbol, kept_word, token_at, is_catch_count, group_count, on, row_on, pairs_on, segments_on}
-use Rattle.core_texts.proofs.Reading.{opens, is_slash, is_bar, is_paren, equals_in}
-use Rattle.core_texts.proofs.Taking.{never}
-use Rattle.core_texts.proofs.Truths.{and_left, and_right}
+use Rattle.core_texts.proofs.Fronts.{opens, is_slash, is_bar, is_paren, equals_in}
+use Rattle.core_texts.proofs.Truths.{never, and_left, and_right}
 use Rattle.core_texts.proofs.Bits.{bits_all}
 use Rattle.core_texts.proofs.Parts.{Part, tree_part, group_part, clause_part, there, is_strict, all_bits, here, least_tree}
 use Rattle.core_texts.proofs.Plans.{Plan, done, symbol_next, word_next, arity_next, look, call, bracket, if_next, Looked}

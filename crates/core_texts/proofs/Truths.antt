@@ -1,6 +1,8 @@
 -- Small facts of truth values.
 use Rattle.std.proofs.Common.{◌≡◌, refl, Bool, true, false, ◌&&◌}
-use Rattle.core_texts.proofs.Taking.{never}
+
+pub never : {A : Type 0} → false ≡ true → A
+never e = absurd cc
 
 pub and_left : (a b : Bool) → (a && b) ≡ true → a ≡ true
 and_left true b h = refl

@@ -12,9 +12,8 @@ use Rattle.core_form.specs.SourceTree.{is_variable_name, is_arity}
 use Rattle.core_grammar.specs.WrittenTree.{Spelled, Tree, variable, atom, number, wide, float, character, string, function_name, external, noted, alias, list, list_on, tuple, values, new_map, map_on, binary, fun, let_in, letrec, case, apply, call as call_of, primop, do_then, catch, try, receive, Group, Clause, Row, none, more, Pairs, no_pair, pair, Segments, no_segment, and_segment, Clauses, no_clause, and_clause, Definitions, no_definition, definition}
 use Rattle.core_grammar.specs.Standing.{Sort, expression, pattern, constant, note, key, segment_value, a_variable, a_name, an_atom, a_fun, takes_constant, takes_atom, takes_name, takes_fun, takes_expression, takes_alias, takes_binary, inner_sort, item_sort, key_sort, Stands, RowStands, PairsStand, SegmentsStand}
 use Rattle.core_grammar.specs.Signs.{Sign, at_place, an_arity, plain_sign, Fits, weight, key_weight, symbol, token_at, arity, catch_arrow, group_count, on, row_on, pairs_on, segments_on, clause_on, clauses_on}
-use Rattle.core_texts.proofs.Reading.{opens, is_paren, is_when, equals_in}
-use Rattle.core_texts.proofs.Taking.{never, front}
-use Rattle.core_texts.proofs.Truths.{and_in}
+use Rattle.core_texts.proofs.Fronts.{opens, is_paren, is_when, equals_in, front}
+use Rattle.core_texts.proofs.Truths.{never, and_in}
 use Rattle.core_texts.proofs.Opens.{no_front, opens_tree, opens_segment, opens_clause, opened}
 use Rattle.core_texts.proofs.Bits.{all_of_bits}
 use Rattle.core_texts.proofs.Parts.{Part, tree_part, items_part, Value, Follows, clause_part, group_part, there, is_strict, all_bits}

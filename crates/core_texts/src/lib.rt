@@ -1,4 +1,16 @@
-//! Laws of the texts of Core Erlang.
+//! Laws of the texts of Core Erlang: what their tokens are, and that every list of tokens has its one answer.
+//!
+//! `module 'm' [] attributes [] end` is a text, and of one tree alone. Without its `[` the first fault is the `]`, since
+//! `module 'm'` begins texts and `module 'm' ]` begins none. In 2,001 braces, all tokens of which begin a text, the
+//! first token that is too deep is the fault. No tokens are two of these at once, and closed ones, which end with the
+//! end of the text or with a bad token, are one of them.
+//!
+//! Why: the grammar is a stack of plans (proofs/Plans.antt, proofs/Stacks.antt). A plan is what is still to come of a
+//! part of a text, and takes one token a step, without looking further ahead. Three facts hold of every step: what was
+//! read begins a text, since each plan can be ended; a token that a text goes on with is taken; and the depth that the
+//! step tells is the least that the token has in such texts.
+//!
+//! The public functions have no code: the contract of each is a law. No reader of tokens is here.
 #![tactic(auto)]
 
 ghost use Rattle.std.specs.Prelude.{List};
@@ -23,7 +35,7 @@ pub fn tokens_have_one_answer()
     ensures { (ts : List Token) → OneAnswer ts }
 {}
 
-/// Closed tokens have an answer: each list of them is a text within the depth, or has a first fault.
+/// Closed tokens have an answer: they are a text within the depth, or have a first fault.
 pub fn closed_tokens_have_an_answer()
     ensures { (ts : List Token) → IsClosed ts → Answer ts }
 {}
