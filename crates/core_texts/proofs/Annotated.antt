@@ -1,11 +1,10 @@
 -- The depth of annotations' brackets, whatever they hold.
-use Rattle.std.proofs.Common.{arith, ◌≡◌, refl, sym, ap, ◌∙◌, ℕ, zero, suc, ◌+◌, ◌≤◌, List, [], ◌∷◌, Bool, true, false, ◌&&◌}
+use Rattle.std.proofs.Common.{arith, ◌≡◌, refl, sym, ap, ◌∙◌, ℕ, suc, ◌+◌, ◌≤◌, List, ◌∷◌, Bool, true, false}
 use Rattle.erl_base.specs.declared.ids.Place.{Place}
 use Rattle.core_lex.specs.declared.token.Token.{Token}
-use Rattle.core_lex.specs.declared.token.TokenKind.{TokenKind}
 use Rattle.core_lex.specs.declared.token.TokenKind.TheVariants.{Symbol, Variable}
 use Rattle.core_lex.specs.declared.token.Symbol.TheVariants as S
-use Rattle.core_grammar.specs.WrittenTree.{Tree, variable, noted, Clause, noted_clause}
+use Rattle.core_grammar.specs.WrittenTree.{Tree, variable, noted}
 use Rattle.core_grammar.specs.Standing.{Sort, pattern, key, note, a_variable, inner_sort, Stands}
 use Rattle.core_grammar.specs.Signs.{Sight, of_kind, at_place, Sign, plain_sign, Fits, weight, key_weight, annotated, token_at, symbol, on}
 use Rattle.core_texts.proofs.Truths.{never}

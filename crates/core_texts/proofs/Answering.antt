@@ -1,7 +1,6 @@
 -- Closed tokens have an answer.
-use Rattle.std.proofs.Common.{arith, ◌≡◌, refl, sym, ap, ◌∙◌, subst, ℕ, zero, suc, ◌<◌, ◌≤◌, leb, List, [], ◌∷◌, ◌++◌, Bool, true, false, Option, None, Some}
+use Rattle.std.proofs.Common.{arith, ◌≡◌, refl, sym, ap, ◌∙◌, subst, ℕ, ◌<◌, ◌≤◌, leb, List, [], ◌∷◌, ◌++◌, Bool, true, false, None, Some}
 use Rattle.std.proofs.lemmas.Bool.{leb-true, leb-false}
-use Rattle.erl_base.specs.declared.ids.Place.{Place}
 use Rattle.core_lex.specs.declared.token.Token.{Token}
 use Rattle.core_lex.specs.declared.token.TokenKind.TheVariants.{End}
 use Rattle.core_lex.specs.Tokens.{is_last, IsClosed}
@@ -9,16 +8,16 @@ use Rattle.core_grammar.specs.WrittenTree.{Written}
 use Rattle.core_grammar.specs.Standing.{IsModule}
 use Rattle.core_grammar.specs.Signs.{of_kind, Sign, plain_sign, module_on, signs, FitFront}
 use Rattle.core_grammar.specs.ModuleOf.{module_of}
-use Rattle.core_grammar.specs.Texts.{ModuleText, BeginsModule, NestsWithin, IsDeeper, FirstSyntaxFault, NestingFault, last_depth, most_depth}
+use Rattle.core_grammar.specs.Texts.{BeginsModule, NestsWithin, IsDeeper, last_depth, most_depth}
 use Rattle.core_texts.specs.Answers.{Answer, is_text, has_syntax_fault, has_nesting_fault}
-use Rattle.core_texts.proofs.Cuts.{assoc, front_of}
+use Rattle.core_texts.proofs.Cuts.{assoc}
 use Rattle.core_texts.proofs.Truths.{never}
-use Rattle.core_texts.proofs.Overs.{Over, over_more, last_is, over_front, over_whole, Next, next_sign, over_once}
+use Rattle.core_texts.proofs.Overs.{last_is, over_front, over_whole}
 use Rattle.core_texts.proofs.Parts.{module_part, least}
 use Rattle.core_texts.proofs.Least.{least_right}
-use Rattle.core_texts.proofs.Stacks.{Stack, bottom, State, state, finished, Result, step}
+use Rattle.core_texts.proofs.Stacks.{State, state, finished, Result, step}
 use Rattle.core_texts.proofs.Sound.{Good, Sound, Held, IsFinished, Reached, sound_step}
-use Rattle.core_texts.proofs.Complete.{Choice, first_way, second_way, Goes, Went, complete_step}
+use Rattle.core_texts.proofs.Complete.{Choice, first_way, second_way}
 use Rattle.core_texts.proofs.Bodies.{body}
 use Rattle.core_texts.proofs.Tracks.{Tracked, start, tracked_start, stepped, tracked_on}
 

@@ -1,13 +1,12 @@
 -- A segment that is read as a constant: its parts, and all of it.
-use Rattle.std.proofs.Common.{arith, ◌≡◌, refl, sym, ap, ◌∙◌, ℕ, zero, suc, ◌+◌, ◌*◌, ◌≤◌, ℤ, leb, Bool, true, false, not, ◌&&◌, ◌||◌, List, [], ◌∷◌, Option, None, Some, if◌then◌else◌, codes}
+use Rattle.std.proofs.Common.{arith, ◌≡◌, refl, ℕ, ◌*◌, ◌≤◌, ℤ, leb, Bool, true, false, not, ◌&&◌, ◌||◌, List, [], Option, None, Some, if◌then◌else◌}
 use Rattle.std.proofs.lemmas.Bool.{leb-true, le-leb}
-use Rattle.erl_term.specs.Term as T
 use Rattle.erl_term.specs.Term.{Term}
 use Rattle.erl_term.specs.Terms.{list_of}
 use Rattle.erl_term.specs.Segments.{joined}
 use Rattle.core_form.specs.SourceTree.{are_flags, is_flag}
-use Rattle.core_grammar.specs.WrittenTree.{Tree, Row, none, more, Segments, no_segment, and_segment}
-use Rattle.core_grammar.specs.ConstantTerms.{and_item, constant_list, constant_of, constants_of, is_constant_size, bits_with, bits_written, bits_of, segment_bits}
+use Rattle.core_grammar.specs.WrittenTree.{Row, none, more, Segments, no_segment, and_segment}
+use Rattle.core_grammar.specs.ConstantTerms.{and_item, constant_list, constant_of, constants_of, is_constant_size, bits_written, bits_of, segment_bits}
 use Rattle.core_texts.proofs.Truths.{never, and_left, and_right, and_in}
 use Rattle.core_texts.proofs.Parts.{there, is_size, is_unit, count_or_none, flags_in, flag_in, all_flags, all_bits}
 

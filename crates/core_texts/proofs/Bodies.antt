@@ -1,17 +1,17 @@
 -- The plan of each part.
-use Rattle.std.proofs.Common.{◌≡◌, refl, sym, ap, ◌∙◌, ℕ, zero, suc, ◌+◌, List, [], ◌∷◌, Bool, true, false, not, ◌&&◌, Option, None, Some}
+use Rattle.std.proofs.Common.{◌≡◌, refl, ap, ℕ, suc, ◌+◌, List, ◌∷◌, Bool, true, false}
 use Rattle.erl_base.specs.declared.ids.Place.{Place}
 use Rattle.core_lex.specs.declared.token.TokenKind.{TokenKind}
-use Rattle.core_lex.specs.declared.token.TokenKind.TheVariants.{Word, Symbol}
+use Rattle.core_lex.specs.declared.token.TokenKind.TheVariants.{Symbol}
 use Rattle.core_lex.specs.declared.token.Word.TheVariants as W
 use Rattle.core_lex.specs.declared.token.Symbol.TheVariants as S
-use Rattle.core_grammar.specs.WrittenTree.{Spelled, Tree, noted, alias, Row, none, more, Group, single, angled, Pairs, no_pair, pair, Segment, segment, noted_segment, Segments, no_segment, and_segment, Clause, clause, noted_clause, Clauses, no_clause, and_clause, Definitions, no_definition, definition, Attributes, no_attribute, attribute, Written, plain_module, noted_module}
-use Rattle.core_grammar.specs.Standing.{Sort, expression, pattern, constant, note, key, segment_value, a_variable, a_name, an_atom, a_fun, takes_pair, item_sort, key_sort, value_sort, Stands, RowStands, GroupStands, SegmentStands, AttributesStand}
-use Rattle.core_grammar.specs.ConstantTerms.{bits_of, integer_value, count_value, is_integer_kind, constant_of}
-use Rattle.core_grammar.specs.Signs.{Sign, at_place, plain_sign, token_at, symbol, pair_symbol, kept_word, spelled, on, row_on, segment_on, clause_on, attributes_on}
-use Rattle.core_texts.proofs.Parts.{Head, whole, part, Part, tree_part, items_part, group_part, pairs_part, segment_part, segments_part, head_part, clause_part, clauses_part, definitions_part, attributes_part, module_part, value_part, size_part, unit_part, kind_part, flags_part, flag_part, flag_items_part, head_on, HeadRight, is_strict, has_bits, all_bits, count_or_none}
+use Rattle.core_grammar.specs.WrittenTree.{Spelled, Tree, noted, alias, Row, none, more, single, angled, no_pair, pair, Segment, segment, noted_segment, no_segment, and_segment, clause, noted_clause, no_clause, and_clause, no_definition, definition, Attributes, no_attribute, attribute, plain_module, noted_module}
+use Rattle.core_grammar.specs.Standing.{Sort, expression, pattern, constant, note, key, segment_value, a_variable, a_name, an_atom, a_fun, takes_pair, item_sort, key_sort, value_sort, Stands, RowStands, AttributesStand}
+use Rattle.core_grammar.specs.ConstantTerms.{integer_value, count_value, is_integer_kind, constant_of}
+use Rattle.core_grammar.specs.Signs.{Sign, plain_sign, token_at, symbol, pair_symbol, kept_word, spelled, on, row_on, attributes_on}
+use Rattle.core_texts.proofs.Parts.{Head, whole, part, Part, tree_part, items_part, group_part, pairs_part, segment_part, segments_part, head_part, clause_part, clauses_part, definitions_part, attributes_part, module_part, value_part, size_part, unit_part, kind_part, flags_part, flag_part, flag_items_part, head_on, HeadRight, is_strict, has_bits, count_or_none}
 use Rattle.core_texts.proofs.Fronts.{opens, is_comma, is_angle, is_paren, is_when, equals_in}
-use Rattle.core_texts.proofs.Truths.{never, and_left, and_right, and_in}
+use Rattle.core_texts.proofs.Truths.{never, and_in}
 use Rattle.core_texts.proofs.Bits.{bits_ok}
 use Rattle.core_texts.proofs.Plans.{Plan, done, symbol_next, word_next, look, call, bracket, if_next}
 use Rattle.core_texts.proofs.Steps.{atom_plan, angle_plan, open_segment_plan, note_plan, rows, some_definitions_plan, some_attributes_plan}
@@ -78,9 +78,11 @@ strict_plan s d p e =
     (call (size_part d) λ u i. symbol_next true d S.Comma (call (unit_part (count_or_none (count_value u)) d) λ n j.
     symbol_next true d S.Comma (call (kind_part d) λ x k. symbol_next true d S.Comma
     (call (flags_part d) λ f l. symbol_next true d S.CloseParen
-    (done (segment p t u n x f) ((h.0, i.0, j.0, k.0, l.0),
-    bits_ok (is_integer_kind x) (integer_value t) (count_value u) (count_value n) (constant_of false f)
-    k.1 h.1 i.1 j.1 l.1) (λ r. refl)))))))
+    (done (segment p t u n x f) (
+      (h.0, i.0, j.0, k.0, l.0),
+      bits_ok (is_integer_kind x) (integer_value t) (count_value u) (count_value n) (constant_of false f)
+          k.1 h.1 i.1 j.1 l.1,
+    ) (λ r. refl)))))))
 
 pub bits_noted : (b : Bool) (g : Segment) (n : Tree) → has_bits b g ≡ true → has_bits b (noted_segment g n) ≡ true
 bits_noted true g n h = h

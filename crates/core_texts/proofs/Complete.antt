@@ -1,5 +1,5 @@
 -- What begins a text is read: a state that a module goes on from takes its next token.
-use Rattle.std.proofs.Common.{arith, ◌≡◌, refl, sym, ap, ◌∙◌, subst, ◌≤◌, ◌+◌, ℕ, zero, suc, leb, List, [], ◌∷◌, ◌++◌, Bool, true, false, not, ◌&&◌, pos, Option, None, Some}
+use Rattle.std.proofs.Common.{arith, ◌≡◌, refl, sym, ap, ◌∙◌, subst, ◌≤◌, ◌+◌, ℕ, zero, suc, leb, List, [], ◌∷◌, Bool, true, false, not, ◌&&◌, pos, Option, None, Some}
 use Rattle.std.specs.Bool.{⊤}
 use Rattle.std.proofs.lemmas.Bool.{le-leb}
 use Rattle.erl_base.specs.declared.ids.Place.{Place}
@@ -9,12 +9,12 @@ use Rattle.core_lex.specs.declared.token.TokenKind.TheVariants.{Word, Symbol, Nu
 use Rattle.core_lex.specs.declared.token.Symbol.TheVariants as S
 use Rattle.core_form.specs.SourceTree.{is_arity}
 use Rattle.core_grammar.specs.WrittenTree.{Written}
-use Rattle.core_grammar.specs.Signs.{Sight, of_kind, at_place, an_arity, Sign, plain_sign, Fits, IsArityToken}
+use Rattle.core_grammar.specs.Signs.{of_kind, at_place, an_arity, Sign, plain_sign, Fits, IsArityToken}
 use Rattle.core_texts.proofs.Truths.{never, and_in}
-use Rattle.core_texts.proofs.Fronts.{front, kind_seen, kind_fits}
+use Rattle.core_texts.proofs.Fronts.{front, kind_fits}
 use Rattle.core_texts.proofs.TokenTests.{is_symbol, same_symbol_self, is_word, same_word_self, is_end}
-use Rattle.core_texts.proofs.Parts.{Part, module_part, Value, signs_of, Right, least, Follows}
-use Rattle.core_texts.proofs.Plans.{Plan, done, symbol_next, word_next, arity_next, look, call, bracket, if_next, symbol_sign, Bracket, Looked}
+use Rattle.core_texts.proofs.Parts.{Part, Value, signs_of, Right, least, Follows}
+use Rattle.core_texts.proofs.Plans.{Plan, done, symbol_next, word_next, arity_next, look, call, bracket, if_next, symbol_sign}
 use Rattle.core_texts.proofs.Stacks.{Stack, bottom, frame, State, state, finished, Result, where_true, Arity, arity_bytes, arity_from, arity_of, arity_step, either, step_plan, enter, finish, step}
 
 pub data Choice (A B : Type 0) : Type 0 where
@@ -191,32 +191,48 @@ module _ (body : (v : Part) → Plan v (λ r. r))
       let k : t.kind ≡ Symbol s = subst (λ x. Fits x.sight t) e fits in
       went_where g gs m (c && is_symbol s t.kind) _
       (and_in _ _ (unmarked c (sym (ap (λ x. x.marked) e) ∙ clear)) (ap (is_symbol s) k ∙ same_symbol_self s))
-      (λ h. ((a, r, subst (λ z. Along P a z r) (sym (others g (symbol_sign c d s) gs al.0 al.1)) al.2, wt),
-      le_same d g.depth (sym (ap (λ x. x.depth) e))))
+      (λ h. (
+        (a, r, subst (λ z. Along P a z r) (sym (others g (symbol_sign c d s) gs al.0 al.1)) al.2, wt),
+        le_same d g.depth (sym (ap (λ x. x.depth) e)),
+      ))
   complete_plan D R go en st fin fi (word_next d y P) q a r al wt =
       let e = first_sign g (plain_sign d (of_kind (Word y))) gs al.0 al.1 in
       let k : t.kind ≡ Word y = subst (λ x. Fits x.sight t) e fits in
       went_where g gs m (is_word y t.kind) _ (ap (is_word y) k ∙ same_word_self y)
-      (λ h. ((a, r, subst (λ z. Along P a z r) (sym (others g (plain_sign d (of_kind (Word y))) gs al.0 al.1)) al.2, wt),
-      le_same d g.depth (sym (ap (λ x. x.depth) e))))
+      (λ h. (
+        (a, r, subst (λ z. Along P a z r) (sym (others g (plain_sign d (of_kind (Word y))) gs al.0 al.1)) al.2, wt),
+        le_same d g.depth (sym (ap (λ x. x.depth) e)),
+      ))
   complete_plan D R go en st fin fi (arity_next d f) q a r al wt =
       let e = first_sign g (plain_sign d (an_arity al.0)) gs al.2 al.3 in
       let k : IsArityToken al.0 t = subst (λ x. Fits x.sight t) e fits in
       went_arity g gs m t al.0 (arity_of t) (λ n h. (state (f n h) st, d)) (arity_known al.0 t k al.1)
-      (λ h. ((a, r, subst (λ z. Along (f al.0 h) a z r)
-      (sym (others g (plain_sign d (an_arity al.0)) gs al.2 al.3)) (al.4 h), wt),
-      le_same d g.depth (sym (ap (λ x. x.depth) e))))
+      (λ h. (
+        (
+          a,
+          r,
+          subst (λ z. Along (f al.0 h) a z r)
+              (sym (others g (plain_sign d (an_arity al.0)) gs al.2 al.3)) (al.4 h),
+          wt,
+        ),
+        le_same d g.depth (sym (ap (λ x. x.depth) e)),
+      ))
   complete_plan D R go en st fin fi (look l f) q a r al wt =
       let e = first_sign g (plain_sign (l.depth al.0 al.1) (at_place al.0 al.1)) gs al.3 al.4 in
       let i : Fits (at_place al.0 al.1) t = subst (λ x. Fits x.sight t) e fits in
       let o = others g (plain_sign (l.depth al.0 al.1) (at_place al.0 al.1)) gs al.3 al.4 in
       went_where g gs m (l.takes t.kind) _ (ap l.takes i.0 ∙ al.2)
       (λ h. (
-        (a, r, subst (λ z. Along (f t.place t.kind h) a z r) (sym o)
-        (subst (λ x. (h : l.takes x ≡ true) → Along (f t.place x h) a al.3 r) (sym i.0)
-        (subst (λ p. (h : l.takes al.1 ≡ true) → Along (f p al.1 h) a al.3 r) (sym i.1) al.5) h), wt),
+        (
+          a,
+          r,
+          subst (λ z. Along (f t.place t.kind h) a z r) (sym o)
+              (subst (λ x. (h : l.takes x ≡ true) → Along (f t.place x h) a al.3 r) (sym i.0)
+              (subst (λ p. (h : l.takes al.1 ≡ true) → Along (f p al.1 h) a al.3 r) (sym i.1) al.5) h),
+          wt,
+        ),
         le_same (l.depth t.place t.kind) g.depth
-        (ap (λ x. l.depth t.place x) i.0 ∙ ap (λ p. l.depth p al.1) i.1 ∙ sym (ap (λ x. x.depth) e)),
+            (ap (λ x. l.depth t.place x) i.0 ∙ ap (λ p. l.depth p al.1) i.1 ∙ sym (ap (λ x. x.depth) e)),
       ))
   complete_plan D R go en st fin fi (call {k = k} v f) q a r al wt =
       en v q (frame (λ b z. k (signs_of v b z)) f st) al.0 al.2
@@ -225,10 +241,17 @@ module _ (body : (v : Part) → Plan v (λ r. r))
       let e = first_sign g (plain_sign (s.deep al.0) (s.sight al.2 al.0)) gs (signs_of v al.0 al.3) al.4 in
       let i : Fits (s.sight al.2 al.0) t = subst (λ x. Fits x.sight t) e fits in
       went_where g gs m (is_symbol S.OpenParen t.kind) _ (ap (is_symbol S.OpenParen) (s.seen al.2 t al.0 i))
-      (λ h. ((al.0, al.3, subst (λ z. Along (body v) al.0 z al.3)
-      (sym (others g (plain_sign (s.deep al.0) (s.sight al.2 al.0)) gs (signs_of v al.0 al.3) al.4))
-      (alongs v al.0 al.1 al.3 al.5), (a, r, al.6 t i, wt)),
-      le_trans (s.deep (least v)) (s.deep al.0) g.depth (s.least_deep al.0) (ap (λ x. x.depth) e)))
+      (λ h. (
+        (
+          al.0,
+          al.3,
+          subst (λ z. Along (body v) al.0 z al.3)
+              (sym (others g (plain_sign (s.deep al.0) (s.sight al.2 al.0)) gs (signs_of v al.0 al.3) al.4))
+              (alongs v al.0 al.1 al.3 al.5),
+          (a, r, al.6 t i, wt),
+        ),
+        le_trans (s.deep (least v)) (s.deep al.0) g.depth (s.least_deep al.0) (ap (λ x. x.depth) e),
+      ))
   complete_plan D R go en st fin fi (if_next c P Q) q a r (first_way al) wt =
       went_first g gs m (c t.kind) _ _ (ap c (kind_fits g.sight t fits) ∙ al.0)
       (complete_plan D R go en st fin fi P q.0 a r al.1 wt)

@@ -1,24 +1,23 @@
 -- The plans of a constant segment's parts.
-use Rattle.std.proofs.Common.{◌≡◌, refl, sym, ap, ◌∙◌, ℕ, zero, suc, ◌+◌, leb, ℤ, List, [], ◌∷◌, Bool, true, false, not, ◌&&◌, ◌||◌, pos, Option, None, Some, codes}
-use Rattle.std.specs.List.{list_all}
-use Rattle.erl_base.specs.Names.{Name, same_name}
+use Rattle.std.proofs.Common.{◌≡◌, refl, ℕ, suc, ◌+◌, leb, List, [], ◌∷◌, Bool, true, false, ◌&&◌, pos, Some, codes}
+use Rattle.erl_base.specs.Names.{same_name}
 use Rattle.erl_base.specs.declared.ids.Place.{Place}
 use Rattle.erl_term.specs.Ranges.{is_within_128}
 use Rattle.erl_term.specs.Term as T
 use Rattle.core_lex.specs.declared.token.TokenKind.{TokenKind}
-use Rattle.core_lex.specs.declared.token.TokenKind.TheVariants.{Word, Symbol, Variable, Atom, Number, Wide, Float, Character, Letters, Bad, End}
+use Rattle.core_lex.specs.declared.token.TokenKind.TheVariants.{Symbol, Atom, Number, Wide, Character, Letters}
 use Rattle.core_lex.specs.declared.token.Symbol as Symbols
 use Rattle.core_lex.specs.declared.token.Symbol.TheVariants as S
 use Rattle.core_form.specs.SourceTree.{is_flag}
-use Rattle.core_grammar.specs.WrittenTree.{Tree, atom, number, wide, character, string, noted, list, list_on, Row, none, more}
-use Rattle.core_grammar.specs.Standing.{constant, an_atom, note, is_code, Stands, RowStands}
-use Rattle.core_grammar.specs.ConstantTerms.{constant_of, count_value, integer_value}
-use Rattle.core_grammar.specs.Signs.{Sign, at_place, plain_sign, token_at, symbol, on, row_on}
+use Rattle.core_grammar.specs.WrittenTree.{atom, number, wide, character, string, noted, list, list_on, Row, none, more}
+use Rattle.core_grammar.specs.Standing.{constant, is_code, RowStands}
+use Rattle.core_grammar.specs.ConstantTerms.{constant_of}
+use Rattle.core_grammar.specs.Signs.{Sign, at_place, plain_sign, token_at, row_on}
 use Rattle.core_texts.proofs.Fronts.{opens, is_bar, is_comma}
 use Rattle.core_texts.proofs.Truths.{never, and_left, and_right, and_in}
 use Rattle.core_texts.proofs.Bits.{flags_list}
-use Rattle.core_texts.proofs.Parts.{Part, value_part, size_part, unit_part, kind_part, flags_part, flag_part, flag_items_part, is_unit, flags_in, all_flags, here}
-use Rattle.core_texts.proofs.Plans.{Plan, done, symbol_next, look, call, if_next, Looked}
+use Rattle.core_texts.proofs.Parts.{Part, value_part, size_part, unit_part, kind_part, flags_part, flag_part, flag_items_part, is_unit, all_flags, here}
+use Rattle.core_texts.proofs.Plans.{Plan, done, symbol_next, call, if_next, Looked}
 use Rattle.core_texts.proofs.Steps.{note_plan}
 
 abbrev pub is_open_paren : Symbols.Symbol → Bool

@@ -1,10 +1,9 @@
 -- The least ones are right.
-use Rattle.std.proofs.Common.{arith, ◌≡◌, refl, sym, ◌∙◌, ℕ, ◌*◌, ◌≤◌, leb, Bool, true, false, not, ◌||◌, ◌&&◌}
+use Rattle.std.proofs.Common.{arith, ◌≡◌, refl, ℕ, ◌*◌, leb, Bool, true, false, not, ◌||◌, ◌&&◌}
 use Rattle.std.proofs.lemmas.Bool.{leb-true, le-leb}
 use Rattle.core_grammar.specs.Standing.{Sort, expression, pattern, constant, note, key, segment_value, a_variable, a_name, an_atom, a_fun, item_sort, key_sort, takes_pair, Stands, SegmentStands}
 use Rattle.core_grammar.specs.ConstantTerms.{is_constant_size}
-use Rattle.core_texts.proofs.Parts.{Part, tree_part, items_part, group_part, pairs_part, segment_part, segments_part, head_part, clause_part, clauses_part, definitions_part, attributes_part, module_part, value_part, size_part, unit_part, kind_part, flags_part, flag_part, flag_items_part, Value, Right, least, least_tree, least_segment, exact_in, is_strict, has_bits, all_bits, is_unit}
-use Rattle.core_texts.proofs.Truths.{and_in}
+use Rattle.core_texts.proofs.Parts.{Part, tree_part, items_part, group_part, pairs_part, segment_part, segments_part, head_part, clause_part, clauses_part, definitions_part, attributes_part, module_part, value_part, size_part, unit_part, kind_part, flags_part, flag_part, flag_items_part, Right, least, least_tree, least_segment, exact_in, is_strict, has_bits}
 
 tree_right : (s : Sort) → Stands s (least_tree s)
 tree_right expression = (refl, tt)

@@ -1,13 +1,11 @@
 -- A text has one tree: whoever is read from the same tokens is the same.
-use Rattle.std.proofs.Common.{◌≡◌, refl, sym, ap, ◌∙◌, subst, List, [], ◌∷◌, ◌++◌, Bool, true, false, Option, None, Some}
+use Rattle.std.proofs.Common.{◌≡◌, refl, sym, ap, ◌∙◌, subst, List, [], ◌∷◌, ◌++◌, Bool, true, false}
 use Rattle.core_lex.specs.declared.token.Token.{Token}
 use Rattle.core_lex.specs.declared.token.TokenKind.TheVariants.{Word, End}
-use Rattle.core_form.specs.Core.{Module}
 use Rattle.core_grammar.specs.WrittenTree.{Written, plain_module, noted_module, single, angled}
 use Rattle.core_grammar.specs.Standing.{constant, an_atom, a_name, a_variable, pattern, key_sort, IsModule}
-use Rattle.core_grammar.specs.Signs.{of_kind, at_place, an_arity, Sign, plain_sign, signs, FitFront, FitWhole}
+use Rattle.core_grammar.specs.Signs.{of_kind, at_place, an_arity, Sign, plain_sign, signs, FitWhole}
 use Rattle.core_grammar.specs.ModuleOf.{module_of}
-use Rattle.core_grammar.specs.Texts.{ModuleText}
 use Rattle.core_texts.specs.Answers.{OneTree}
 use Rattle.core_texts.proofs.Cuts.{assoc, front_of, front_of_whole}
 use Rattle.core_texts.proofs.Truths.{never}
@@ -16,9 +14,8 @@ use Rattle.core_texts.proofs.Opens.{opens_tree, opens_segment, opens_clause}
 use Rattle.core_texts.proofs.Overs.{all_over}
 use Rattle.core_texts.proofs.Parts.{whole, part, Part, tree_part, items_part, group_part, pairs_part, segment_part, segments_part, head_part, clause_part, clauses_part, definitions_part, attributes_part, module_part, value_part, size_part, unit_part, kind_part, flags_part, flag_part, flag_items_part, Value, Right, signs_of}
 use Rattle.core_texts.proofs.Plans.{Plan, done, symbol_next, word_next, arity_next, look, call, bracket, if_next, symbol_sign}
-use Rattle.core_texts.proofs.Stacks.{Stack, bottom, frame, State, state, finished, step}
+use Rattle.core_texts.proofs.Stacks.{Stack, bottom, frame, State, state, finished}
 use Rattle.core_texts.proofs.Complete.{Along, first_way, second_way, Waits, Goes}
-use Rattle.core_texts.proofs.Bodies.{body}
 use Rattle.core_texts.proofs.Tracks.{Tracked, start, tracked_start, stepped, tracked_on}
 
 -- whether there is a sign

@@ -1,14 +1,13 @@
 -- What the next sign may be, behind a tree and before one.
 use Rattle.std.proofs.Common.{◌≡◌, refl, ℕ, suc, List, [], ◌∷◌, Bool, true, false}
 use Rattle.core_lex.specs.declared.token.TokenKind.{TokenKind}
-use Rattle.core_lex.specs.declared.token.TokenKind.TheVariants.{Word, Symbol}
-use Rattle.core_lex.specs.declared.token.Word as Words
+use Rattle.core_lex.specs.declared.token.TokenKind.TheVariants.{Symbol}
 use Rattle.core_lex.specs.declared.token.Symbol.TheVariants as S
-use Rattle.core_grammar.specs.WrittenTree.{Tree, alias, Row, none, more, Group, single, angled, Pairs, no_pair, pair, Segment, segment, noted_segment, Segments, no_segment, and_segment, Clause, clause, noted_clause, Clauses, no_clause, and_clause, Definitions, no_definition, definition}
-use Rattle.core_grammar.specs.Standing.{Sort, pattern, a_variable, a_name}
-use Rattle.core_grammar.specs.Signs.{Sign, kept_word, on, row_on, group_on, pairs_on, segment_on, segments_on, clause_on, clauses_on, definitions_on}
+use Rattle.core_grammar.specs.WrittenTree.{Tree, alias, Group, single, angled, Segment, segment, noted_segment, Clause, clause, noted_clause}
+use Rattle.core_grammar.specs.Standing.{Sort, pattern, a_variable}
+use Rattle.core_grammar.specs.Signs.{Sign, on, group_on, segment_on, clause_on}
 use Rattle.core_texts.proofs.Truths.{never}
-use Rattle.core_texts.proofs.Fronts.{front, opens, is_slash, is_comma, equals_in}
+use Rattle.core_texts.proofs.Fronts.{front, opens, is_slash, equals_in}
 
 -- what may stand behind a tree
 pub record Calm (m : Bool) (r : List Sign) : Type 0 where

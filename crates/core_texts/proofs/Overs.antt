@@ -1,6 +1,5 @@
 -- Tokens over the first of some signs.
-use Rattle.std.proofs.Common.{◌≡◌, refl, sym, ap, ◌∙◌, subst, ℕ, List, [], ◌∷◌, ◌++◌, Bool, true, false}
-use Rattle.std.specs.Bool.{⊤}
+use Rattle.std.proofs.Common.{◌≡◌, refl, sym, ap, ◌∙◌, subst, List, [], ◌∷◌, ◌++◌, false}
 use Rattle.core_lex.specs.declared.token.Token.{Token}
 use Rattle.core_grammar.specs.Signs.{Sign, Fits, FitFront, FitWhole}
 use Rattle.core_grammar.specs.Texts.{last_depth}

@@ -1,14 +1,13 @@
 -- The parts of a text: what each is read as, its signs, what is right for it, what may stand behind it, and a least one.
-use Rattle.std.proofs.Common.{◌≡◌, refl, ℕ, zero, suc, ◌+◌, ◌*◌, ◌≤◌, ltb, leb, List, [], ◌∷◌, Bool, true, false, ◌&&◌, ◌||◌, not, pos, Option, None, Some, codes, IsTrue}
+use Rattle.std.proofs.Common.{◌≡◌, ℕ, suc, leb, List, [], ◌∷◌, Bool, true, false, ◌&&◌, ◌||◌, not, pos, Option, None, Some, codes}
 use Rattle.std.specs.Bool.{⊤}
 use Rattle.erl_base.specs.declared.ids.Place.{Place}
 use Rattle.erl_term.specs.Term.{Term}
-use Rattle.core_lex.specs.declared.token.Symbol.TheVariants as S
 use Rattle.core_lex.specs.declared.token.TokenKind.{TokenKind}
 use Rattle.core_form.specs.SourceTree.{are_flags, is_flag}
-use Rattle.core_grammar.specs.WrittenTree.{Spelled, Tree, variable, atom, number, function_name, noted, list, values, fun, Row, none, more, Group, single, angled, Pairs, no_pair, pair, Segment, segment, Segments, no_segment, and_segment, Clause, clause, Clauses, no_clause, and_clause, Definitions, no_definition, definition, Attributes, no_attribute, attribute, Written, plain_module}
-use Rattle.core_grammar.specs.Standing.{Sort, expression, pattern, constant, note, key, segment_value, a_variable, a_name, an_atom, a_fun, takes_alias, item_sort, key_sort, Stands, RowStands, GroupStands, takes_pair, PairsStand, SegmentStands, SegmentsStand, ClauseStands, ClausesStand, DefinitionsStand, AttributesStand, IsModule}
-use Rattle.core_grammar.specs.ConstantTerms.{constant_of, constants_of, integer_value, count_value, is_integer_kind, is_constant_size, bits_of}
+use Rattle.core_grammar.specs.WrittenTree.{Tree, variable, atom, number, function_name, list, fun, Row, none, more, Group, single, angled, Pairs, no_pair, pair, Segment, segment, Segments, no_segment, and_segment, Clause, clause, Clauses, no_clause, and_clause, Definitions, no_definition, definition, Attributes, no_attribute, attribute, Written, plain_module}
+use Rattle.core_grammar.specs.Standing.{Sort, expression, pattern, constant, key, segment_value, a_variable, a_name, an_atom, a_fun, takes_alias, item_sort, key_sort, Stands, RowStands, GroupStands, PairsStand, SegmentStands, SegmentsStand, ClauseStands, ClausesStand, DefinitionsStand, AttributesStand, IsModule}
+use Rattle.core_grammar.specs.ConstantTerms.{constant_of, integer_value, count_value, is_integer_kind, is_constant_size, bits_of}
 use Rattle.core_grammar.specs.Signs.{Sign, on, row_on, group_on, pairs_on, segment_on, segments_on, clause_on, clauses_on, definitions_on, attributes_on, module_on}
 use Rattle.core_texts.proofs.Fronts.{is_slash, is_comma, is_when, equals_in, opens, front}
 

@@ -1,6 +1,6 @@
 -- Each part begins with a token, behind at most three parts in it.
 use Rattle.std.proofs.Common.{ℕ}
-use Rattle.core_grammar.specs.Standing.{Sort, expression, pattern, constant, note, key, segment_value, a_variable, a_name, an_atom, a_fun, key_sort}
+use Rattle.core_grammar.specs.Standing.{Sort, key, key_sort}
 use Rattle.core_texts.proofs.Parts.{Part, tree_part, items_part, group_part, pairs_part, segment_part, segments_part, head_part, clause_part, clauses_part, definitions_part, attributes_part, module_part, value_part, size_part, unit_part, kind_part, flags_part, flag_part, flag_items_part}
 use Rattle.core_texts.proofs.Bodies.{body}
 use Rattle.core_texts.proofs.Complete.{QuickPart}

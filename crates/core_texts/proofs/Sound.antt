@@ -9,14 +9,14 @@ use Rattle.core_lex.specs.Tokens.{is_last}
 use Rattle.core_form.specs.SourceTree.{is_arity}
 use Rattle.core_grammar.specs.WrittenTree.{Written}
 use Rattle.core_grammar.specs.Standing.{IsModule}
-use Rattle.core_grammar.specs.Signs.{Sight, of_kind, at_place, an_arity, Sign, plain_sign, Fits, signs}
+use Rattle.core_grammar.specs.Signs.{of_kind, at_place, an_arity, Sign, plain_sign, Fits, signs}
 use Rattle.core_grammar.specs.Texts.{last_depth}
 use Rattle.core_texts.proofs.Truths.{never, and_left, and_right}
 use Rattle.core_texts.proofs.TokenTests.{is_symbol, is_symbol_is, is_word, is_word_is, is_end, is_end_is}
-use Rattle.core_texts.proofs.Parts.{Part, module_part, Value, signs_of, Right, least}
+use Rattle.core_texts.proofs.Parts.{Part, Value, signs_of, Right, least}
 use Rattle.core_texts.proofs.Least.{least_right}
 use Rattle.core_texts.proofs.Overs.{Over, over_more, last_is}
-use Rattle.core_texts.proofs.Plans.{Plan, done, symbol_next, word_next, arity_next, look, call, bracket, if_next, symbol_sign, Bracket, Looked}
+use Rattle.core_texts.proofs.Plans.{Plan, done, symbol_next, word_next, arity_next, look, call, bracket, if_next, symbol_sign, Bracket}
 use Rattle.core_texts.proofs.Stacks.{Stack, bottom, frame, State, state, finished, Result, where_true, Arity, arity_of, arity_step, either, step_plan, enter, finish, step}
 
 -- a way to the end of a plan

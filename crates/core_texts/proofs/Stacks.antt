@@ -1,19 +1,17 @@
 -- A stack of plans that wait, and one step a token.
-use Rattle.std.proofs.Common.{◌≡◌, refl, sym, ap, ◌∙◌, subst, ◌≤◌, ◌+◌, ℕ, zero, suc, leb, List, [], ◌∷◌, ◌++◌, Bool, true, false, not, ◌&&◌, pos, Option, None, Some}
-use Rattle.std.specs.Bool.{⊤}
-use Rattle.erl_base.specs.declared.ids.Place.{Place}
+use Rattle.std.proofs.Common.{◌≡◌, refl, ◌+◌, ℕ, zero, suc, leb, List, ◌∷◌, Bool, true, false, ◌&&◌, pos, Option, None, Some}
 use Rattle.core_lex.specs.declared.token.Token.{Token}
 use Rattle.core_lex.specs.declared.token.TokenKind.{TokenKind}
-use Rattle.core_lex.specs.declared.token.TokenKind.TheVariants.{Word, Symbol, Number, End}
+use Rattle.core_lex.specs.declared.token.TokenKind.TheVariants.{Number}
 use Rattle.core_lex.specs.declared.token.Symbol.TheVariants as S
 use Rattle.core_form.specs.SourceTree.{is_arity}
 use Rattle.core_grammar.specs.WrittenTree.{Written}
-use Rattle.core_grammar.specs.Signs.{Sight, of_kind, at_place, an_arity, Sign, plain_sign, Fits, IsArityToken}
+use Rattle.core_grammar.specs.Signs.{Sign, plain_sign, IsArityToken}
 use Rattle.std.proofs.lemmas.Bool.{leb-true}
 use Rattle.core_texts.proofs.Truths.{and_left, and_right}
 use Rattle.core_texts.proofs.TokenTests.{is_symbol, is_word, is_end}
 use Rattle.core_texts.proofs.Parts.{Part, module_part, Value, signs_of, Right, least}
-use Rattle.core_texts.proofs.Plans.{Plan, done, symbol_next, word_next, arity_next, look, call, bracket, if_next, symbol_sign, Bracket, Looked}
+use Rattle.core_texts.proofs.Plans.{Plan, done, symbol_next, word_next, arity_next, look, call, bracket, if_next}
 
 -- a module is read at the bottom, and then the end
 pub data Stack : Part → Type 0 where
@@ -76,8 +74,11 @@ module _ (body : (v : Part) → Plan v (λ r. r)) (t : Token) where
   step_plan enter st fin (call {k = k} v f) = enter v (frame (λ b r. k (signs_of v b r)) f st)
   step_plan enter st fin (bracket {k = k} v s f) =
       where_true (is_symbol S.OpenParen t.kind)
-      (λ h. (state (body v)
-      (frame (λ b r. k (plain_sign (s.deep b) (s.sight t.place b) ∷ signs_of v b r)) (f t.place) st), s.deep (least v)))
+      (λ h. (
+        state (body v)
+            (frame (λ b r. k (plain_sign (s.deep b) (s.sight t.place b) ∷ signs_of v b r)) (f t.place) st),
+        s.deep (least v),
+      ))
   step_plan enter st fin (if_next c P Q) =
       either (c t.kind) (step_plan enter st fin P) (step_plan enter st fin Q)
 

@@ -1,10 +1,8 @@
 -- Pieces of plans.
-use Rattle.std.proofs.Common.{◌≡◌, refl, sym, ap, ◌∙◌, ℕ, zero, suc, ◌+◌, List, [], ◌∷◌, Bool, true, false, not, ◌&&◌, ◌||◌, pos, Option, None, Some, codes}
-use Rattle.std.specs.List.{list_all}
-use Rattle.erl_base.specs.Names.{Name, same_name}
+use Rattle.std.proofs.Common.{◌≡◌, refl, ℕ, List, [], ◌∷◌, Bool, true, false}
 use Rattle.erl_base.specs.declared.ids.Place.{Place}
 use Rattle.core_lex.specs.declared.token.TokenKind.{TokenKind}
-use Rattle.core_lex.specs.declared.token.TokenKind.TheVariants.{Word, Symbol, Atom}
+use Rattle.core_lex.specs.declared.token.TokenKind.TheVariants.{Symbol, Atom}
 use Rattle.core_lex.specs.declared.token.Symbol.TheVariants as S
 use Rattle.core_grammar.specs.WrittenTree.{Spelled, Tree, Row, none, more, Pairs, no_pair, pair, Segments, no_segment, and_segment, Clauses, no_clause, and_clause, Definitions, no_definition, definition, Attributes, no_attribute, attribute}
 use Rattle.core_grammar.specs.Standing.{Sort, note, Stands, RowStands, PairsStand, SegmentsStand, ClausesStand, DefinitionsStand, AttributesStand}

@@ -1,6 +1,5 @@
 -- Whether a token is this word or that symbol.
-use Rattle.std.proofs.Common.{◌≡◌, refl, ◌≤◌, ◌+◌, ℕ, ltb, leb, Bool, true, false, ◌&&◌, pos, ℤ, Option, None, Some}
-use Rattle.core_lex.specs.declared.token.Token.{Token}
+use Rattle.std.proofs.Common.{◌≡◌, refl, Bool, true, false}
 use Rattle.core_lex.specs.declared.token.TokenKind.{TokenKind}
 use Rattle.core_lex.specs.declared.token.TokenKind.TheVariants.{Word, Symbol, End}
 use Rattle.core_lex.specs.declared.token.Word as Words

@@ -1,5 +1,5 @@
 -- The plans of trees.
-use Rattle.std.proofs.Common.{◌≡◌, refl, sym, ap, ◌∙◌, ℕ, zero, suc, ◌+◌, List, [], ◌∷◌, Bool, true, false, not, ◌&&◌, ◌||◌, pos, IsTrue, Option, None, Some}
+use Rattle.std.proofs.Common.{◌≡◌, refl, ℕ, suc, ◌+◌, List, [], ◌∷◌, Bool, true, false, not, ◌&&◌, ◌||◌, IsTrue, Option, None, Some}
 use Rattle.std.specs.List.{list_all}
 use Rattle.erl_base.specs.Names.{Name}
 use Rattle.erl_base.specs.declared.ids.Place.{Place}
@@ -11,14 +11,14 @@ use Rattle.core_lex.specs.declared.token.Word.TheVariants as W
 use Rattle.core_lex.specs.declared.token.Symbol as Symbols
 use Rattle.core_lex.specs.declared.token.Symbol.TheVariants as S
 use Rattle.core_form.specs.SourceTree.{is_variable_name}
-use Rattle.core_grammar.specs.WrittenTree.{Spelled, Tree, variable, atom, number, wide, float, character, string, function_name, external, noted, alias, list, list_on, tuple, values, new_map, map_on, binary, fun, let_in, letrec, case, apply, call as call_of, primop, do_then, catch, try, receive, Row, none, more, Pairs, Segments}
-use Rattle.core_grammar.specs.Standing.{Sort, expression, pattern, constant, note, key, segment_value, a_variable, a_name, an_atom, a_fun, takes_variable, takes_constant, takes_integer, takes_atom, takes_list, takes_name, takes_fun, takes_expression, takes_binary, inner_sort, item_sort, key_sort, is_code, Stands, RowStands, PairsStand, SegmentsStand}
+use Rattle.core_grammar.specs.WrittenTree.{Tree, variable, atom, number, wide, float, character, string, function_name, external, noted, alias, list, list_on, tuple, values, new_map, map_on, binary, fun, let_in, letrec, case, apply, call as call_of, primop, do_then, catch, try, receive, Row, none, more, Pairs, Segments}
+use Rattle.core_grammar.specs.Standing.{Sort, expression, pattern, constant, note, key, segment_value, a_variable, a_name, an_atom, a_fun, takes_variable, takes_constant, takes_integer, takes_atom, takes_list, takes_name, takes_fun, takes_expression, takes_binary, inner_sort, item_sort, is_code, Stands, RowStands, PairsStand}
 use Rattle.core_grammar.specs.ConstantTerms.{bits_of_segments}
-use Rattle.core_grammar.specs.Signs.{Sign, of_kind, at_place, an_arity, plain_sign, weight, key_weight, symbol, kept_word, token_at, is_catch_count, group_count, on, row_on, pairs_on, segments_on}
-use Rattle.core_texts.proofs.Fronts.{opens, is_slash, is_bar, is_paren, equals_in}
+use Rattle.core_grammar.specs.Signs.{Sign, at_place, plain_sign, weight, key_weight, symbol, token_at, is_catch_count, group_count, on, row_on, pairs_on}
+use Rattle.core_texts.proofs.Fronts.{is_slash, is_bar, is_paren, equals_in}
 use Rattle.core_texts.proofs.Truths.{never, and_left, and_right}
 use Rattle.core_texts.proofs.Bits.{bits_all}
-use Rattle.core_texts.proofs.Parts.{Part, tree_part, group_part, clause_part, there, is_strict, all_bits, here, least_tree}
+use Rattle.core_texts.proofs.Parts.{Part, tree_part, group_part, clause_part, there, is_strict, all_bits, here}
 use Rattle.core_texts.proofs.Plans.{Plan, done, symbol_next, word_next, arity_next, look, call, bracket, if_next, Looked}
 use Rattle.core_texts.proofs.Steps.{atom_plan, note_plan, rows, some_pairs_plan, some_segments_plan, some_clauses_plan, some_definitions_plan}
 use Rattle.core_texts.proofs.Annotated.{is_key, noted_weight, noted_signs, as_variable, is_variable_like, like_stands, key_bracket}

@@ -1,27 +1,24 @@
 -- What is written is read along its plan: trees.
-use Rattle.std.proofs.Common.{◌≡◌, refl, sym, ap, ◌∙◌, subst, ℕ, zero, suc, ◌+◌, List, [], ◌∷◌, Bool, true, false, not, ◌&&◌, ◌||◌, pos, IsTrue, Option, None, Some}
-use Rattle.std.specs.List.{list_all}
+use Rattle.std.proofs.Common.{◌≡◌, refl, sym, ap, subst, ℕ, suc, ◌+◌, List, [], ◌∷◌, Bool, true, false, ◌&&◌, ◌||◌, IsTrue, Option, None, Some}
 use Rattle.erl_base.specs.Names.{Name}
 use Rattle.erl_base.specs.declared.ids.Place.{Place}
-use Rattle.core_lex.specs.declared.token.Token.{Token}
 use Rattle.core_lex.specs.declared.token.TokenKind.{TokenKind}
 use Rattle.core_lex.specs.declared.token.TokenKind.TheVariants.{Word, Symbol, Variable, Atom, Number, Wide, Float, Character, Letters}
 use Rattle.core_lex.specs.declared.token.Word.TheVariants as W
 use Rattle.core_lex.specs.declared.token.Symbol.TheVariants as S
-use Rattle.core_form.specs.SourceTree.{is_variable_name, is_arity}
-use Rattle.core_grammar.specs.WrittenTree.{Spelled, Tree, variable, atom, number, wide, float, character, string, function_name, external, noted, alias, list, list_on, tuple, values, new_map, map_on, binary, fun, let_in, letrec, case, apply, call as call_of, primop, do_then, catch, try, receive, Group, Clause, Row, none, more, Pairs, no_pair, pair, Segments, no_segment, and_segment, Clauses, no_clause, and_clause, Definitions, no_definition, definition}
-use Rattle.core_grammar.specs.Standing.{Sort, expression, pattern, constant, note, key, segment_value, a_variable, a_name, an_atom, a_fun, takes_constant, takes_atom, takes_name, takes_fun, takes_expression, takes_alias, takes_binary, inner_sort, item_sort, key_sort, Stands, RowStands, PairsStand, SegmentsStand}
-use Rattle.core_grammar.specs.Signs.{Sign, at_place, an_arity, plain_sign, Fits, weight, key_weight, symbol, token_at, arity, catch_arrow, group_count, on, row_on, pairs_on, segments_on, clause_on, clauses_on}
+use Rattle.core_form.specs.SourceTree.{is_arity}
+use Rattle.core_grammar.specs.WrittenTree.{Spelled, Tree, variable, atom, number, wide, float, character, string, function_name, external, noted, alias, list, list_on, tuple, values, new_map, map_on, binary, fun, let_in, letrec, case, apply, call as call_of, primop, do_then, catch, try, receive, Group, Clause, Row, none, more, Pairs, no_pair, pair, Segments, no_segment, and_segment, no_clause, and_clause, no_definition, definition}
+use Rattle.core_grammar.specs.Standing.{Sort, expression, pattern, constant, note, key, segment_value, a_variable, a_name, an_atom, a_fun, takes_constant, takes_atom, takes_name, takes_fun, takes_expression, takes_alias, takes_binary, inner_sort, item_sort, key_sort, Stands, RowStands, PairsStand}
+use Rattle.core_grammar.specs.Signs.{Sign, key_weight, symbol, catch_arrow, group_count, on, clause_on}
 use Rattle.core_texts.proofs.Fronts.{opens, is_paren, is_when, equals_in, front}
 use Rattle.core_texts.proofs.Truths.{never, and_in}
 use Rattle.core_texts.proofs.Opens.{no_front, opens_tree, opens_segment, opens_clause, opened}
 use Rattle.core_texts.proofs.Bits.{all_of_bits}
-use Rattle.core_texts.proofs.Parts.{Part, tree_part, items_part, Value, Follows, clause_part, group_part, there, is_strict, all_bits}
-use Rattle.core_texts.proofs.Plans.{Plan, done, look, bracket}
-use Rattle.core_texts.proofs.Steps.{note_plan}
-use Rattle.core_texts.proofs.Annotated.{is_key, noted_weight, noted_signs, as_variable, is_variable_like, variable_stands, variable_like}
-use Rattle.core_texts.proofs.Trees.{Behind, takes_tree, tree_looked, tree_behind, alias_end, noted_plan, other_noted, variable_plan, fun_plan, map_end, noted_key_plan, key_plan, tree_plan}
-use Rattle.core_texts.proofs.Complete.{Along, Choice, first_way, second_way}
+use Rattle.core_texts.proofs.Parts.{tree_part, Follows, clause_part, group_part, there, is_strict, all_bits}
+use Rattle.core_texts.proofs.Plans.{look}
+use Rattle.core_texts.proofs.Annotated.{is_key, noted_weight, as_variable, is_variable_like, variable_stands, variable_like}
+use Rattle.core_texts.proofs.Trees.{takes_tree, tree_looked, tree_behind, alias_end, other_noted, variable_plan, map_end, noted_key_plan, key_plan, tree_plan}
+use Rattle.core_texts.proofs.Complete.{Along, first_way, second_way}
 
 or_left : (a b : Bool) → a ≡ true → (a || b) ≡ true
 or_left true b h = refl
@@ -62,32 +59,200 @@ name_way _ d p a n r h k = never h
 
 external_way : (s : Sort) (d : ℕ) (p : Place) (m f : Spelled) (n : ℕ) (r : List Sign) → IsTrue (takes_constant s)
     → is_arity n ≡ true → TreeWay s d (external p m f n) r
-external_way expression d p m f n r h k =
-    (p, Word W.Fun, refl, _, refl, λ i. second_way (refl, (m.place, Atom m.name, refl, _, refl, λ a. (_, refl, (f.place, Atom f.name, refl, _, refl, λ b. (_, refl,
-    (n, k, r, refl, λ j. (refl, refl))))))))
-external_way pattern d p m f n r h k =
-    (p, Word W.Fun, refl, _, refl, λ i. (m.place, Atom m.name, refl, _, refl, λ a. (_, refl, (f.place, Atom f.name, refl, _, refl, λ b. (_, refl,
-    (n, k, r, refl, λ j. (refl, refl)))))))
-external_way constant d p m f n r h k =
-    (p, Word W.Fun, refl, _, refl, λ i. (m.place, Atom m.name, refl, _, refl, λ a. (_, refl, (f.place, Atom f.name, refl, _, refl, λ b. (_, refl,
-    (n, k, r, refl, λ j. (refl, refl)))))))
-external_way key d p m f n r h k =
-    (p, Word W.Fun, refl, _, refl, λ i. (m.place, Atom m.name, refl, _, refl, λ a. (_, refl, (f.place, Atom f.name, refl, _, refl, λ b. (_, refl,
-    (n, k, r, refl, λ j. (refl, refl)))))))
+external_way expression d p m f n r h k = (
+  p,
+  Word W.Fun,
+  refl,
+  _,
+  refl,
+  λ i. second_way (
+    refl,
+    (
+      m.place,
+      Atom m.name,
+      refl,
+      _,
+      refl,
+      λ a. (
+        _,
+        refl,
+        (
+          f.place,
+          Atom f.name,
+          refl,
+          _,
+          refl,
+          λ b. (
+            _,
+            refl,
+            (n, k, r, refl, λ j. (refl, refl)),
+          ),
+        ),
+      ),
+    ),
+  ),
+)
+external_way pattern d p m f n r h k = (
+  p,
+  Word W.Fun,
+  refl,
+  _,
+  refl,
+  λ i. (
+    m.place,
+    Atom m.name,
+    refl,
+    _,
+    refl,
+    λ a. (
+      _,
+      refl,
+      (
+        f.place,
+        Atom f.name,
+        refl,
+        _,
+        refl,
+        λ b. (
+          _,
+          refl,
+          (n, k, r, refl, λ j. (refl, refl)),
+        ),
+      ),
+    ),
+  ),
+)
+external_way constant d p m f n r h k = (
+  p,
+  Word W.Fun,
+  refl,
+  _,
+  refl,
+  λ i. (
+    m.place,
+    Atom m.name,
+    refl,
+    _,
+    refl,
+    λ a. (
+      _,
+      refl,
+      (
+        f.place,
+        Atom f.name,
+        refl,
+        _,
+        refl,
+        λ b. (
+          _,
+          refl,
+          (n, k, r, refl, λ j. (refl, refl)),
+        ),
+      ),
+    ),
+  ),
+)
+external_way key d p m f n r h k = (
+  p,
+  Word W.Fun,
+  refl,
+  _,
+  refl,
+  λ i. (
+    m.place,
+    Atom m.name,
+    refl,
+    _,
+    refl,
+    λ a. (
+      _,
+      refl,
+      (
+        f.place,
+        Atom f.name,
+        refl,
+        _,
+        refl,
+        λ b. (
+          _,
+          refl,
+          (n, k, r, refl, λ j. (refl, refl)),
+        ),
+      ),
+    ),
+  ),
+)
 external_way _ d p m f n r h k = never h
 
 fun_way : (s : Sort) (d : ℕ) (p : Place) (xs : Row) (t : Tree) (r : List Sign) → IsTrue (takes_fun s)
     → RowStands a_variable xs → Stands expression t → Follows (tree_part s d) r → TreeWay s d (fun p xs t) r
 fun_way expression d p none t r h j i c =
     (p, Word W.Fun, refl, _, refl, λ z. first_way (refl, (_, refl, second_way (refl, (_, refl, (_, refl, (t, i, r, refl, (plain expression d (suc d) r c), λ x. (refl, refl))))))))
-fun_way expression d p (more x xs) t r h j i c =
-    (p, Word W.Fun, refl, _, refl, λ z. first_way (refl, (_, refl, first_way (opens_tree a_variable (suc d) x _, ((x, xs), j, _, refl, (refl, (refl, (refl, tt))), λ y. (_, refl, (_, refl,
-    (t, i, r, refl, (plain expression d (suc d) r c), λ x. (refl, refl)))))))))
+fun_way expression d p (more x xs) t r h j i c = (
+  p,
+  Word W.Fun,
+  refl,
+  _,
+  refl,
+  λ z. first_way (
+    refl,
+    (
+      _,
+      refl,
+      first_way (
+        opens_tree a_variable (suc d) x _,
+        (
+          (x, xs),
+          j,
+          _,
+          refl,
+          (refl, (refl, (refl, tt))),
+          λ y. (
+            _,
+            refl,
+            (
+              _,
+              refl,
+              (t, i, r, refl, (plain expression d (suc d) r c), λ x. (refl, refl)),
+            ),
+          ),
+        ),
+      ),
+    ),
+  ),
+)
 fun_way a_fun d p none t r h j i c =
     (p, Word W.Fun, refl, _, refl, λ z. (_, refl, second_way (refl, (_, refl, (_, refl, (t, i, r, refl, (plain a_fun d (suc d) r c), λ x. (refl, refl)))))))
-fun_way a_fun d p (more x xs) t r h j i c =
-    (p, Word W.Fun, refl, _, refl, λ z. (_, refl, first_way (opens_tree a_variable (suc d) x _, ((x, xs), j, _, refl, (refl, (refl, (refl, tt))), λ y. (_, refl, (_, refl,
-    (t, i, r, refl, (plain a_fun d (suc d) r c), λ x. (refl, refl))))))))
+fun_way a_fun d p (more x xs) t r h j i c = (
+  p,
+  Word W.Fun,
+  refl,
+  _,
+  refl,
+  λ z. (
+    _,
+    refl,
+    first_way (
+      opens_tree a_variable (suc d) x _,
+      (
+        (x, xs),
+        j,
+        _,
+        refl,
+        (refl, (refl, (refl, tt))),
+        λ y. (
+          _,
+          refl,
+          (
+            _,
+            refl,
+            (t, i, r, refl, (plain a_fun d (suc d) r c), λ x. (refl, refl)),
+          ),
+        ),
+      ),
+    ),
+  ),
+)
 fun_way pattern d p xs t r h j i c = never h
 fun_way constant d p xs t r h j i c = never h
 fun_way note d p xs t r h j i c = never h
@@ -119,9 +284,25 @@ other_way s d p t n r e h k =
 
 noted_way : (s : Sort) (d : ℕ) (p : Place) (t n : Tree) (r : List Sign) → is_key s ≡ false → Stands (inner_sort s) t
     → Stands note n → Follows (tree_part s d) r → TreeWay s d (noted p t n) r
-noted_way pattern d p t n r e h k c =
-    (p, Symbol S.OpenParen, refl, _, refl, λ z. (t, h, _, refl, (refl, (refl, tt)), λ i. (_, refl,
-    (n, k, _, refl, (refl, (refl, tt)), λ j. (r, refl, alias_none d p t n i j r (is_variable_like t) refl c.1.0)))))
+noted_way pattern d p t n r e h k c = (
+  p,
+  Symbol S.OpenParen,
+  refl,
+  _,
+  refl,
+  λ z. (
+    t,
+    h,
+    _,
+    refl,
+    (refl, (refl, tt)),
+    λ i. (
+      _,
+      refl,
+      (n, k, _, refl, (refl, (refl, tt)), λ j. (r, refl, alias_none d p t n i j r (is_variable_like t) refl c.1.0)),
+    ),
+  ),
+)
 noted_way expression d p t n r e h k c =
     (p, Symbol S.OpenParen, refl, _, refl, λ z. other_way expression d p t n r refl h k)
 noted_way constant d p t n r e h k c =
@@ -142,16 +323,48 @@ noted_way key d p t n r e h k c = never (sym e)
 
 alias_way : (d : ℕ) (p : Place) (x n t : Tree) (r : List Sign) → Stands a_variable (noted p x n) → Stands pattern t
     → Follows (tree_part pattern d) r → TreeWay pattern d (alias (noted p x n) t) r
-alias_way d p x n t r h k c =
-    (p, Symbol S.OpenParen, refl, _, as_variable (noted p x n) h d _, λ z. (x, variable_stands x h.0, _, refl,
-    (refl, (refl, tt)), λ i. (_, refl, (n, h.1, _, refl, (refl, (refl, tt)), λ j. (_, refl,
-    alias_some d p x n t i j r (is_variable_like x) refl (variable_like x h.0) k c)))))
+alias_way d p x n t r h k c = (
+  p,
+  Symbol S.OpenParen,
+  refl,
+  _,
+  as_variable (noted p x n) h d _,
+  λ z. (
+    x,
+    variable_stands x h.0,
+    _,
+    refl,
+    (refl, (refl, tt)),
+    λ i. (
+      _,
+      refl,
+      (
+        n,
+        h.1,
+        _,
+        refl,
+        (refl, (refl, tt)),
+        λ j. (
+          _,
+          refl,
+          alias_some d p x n t i j r (is_variable_like x) refl (variable_like x h.0) k c,
+        ),
+      ),
+    ),
+  ),
+)
 
 plain_alias : (d : ℕ) (p : Place) (x : Name) (t : Tree) (r : List Sign) → Stands a_variable (variable p x)
     → Stands pattern t → Follows (tree_part pattern d) r → TreeWay pattern d (alias (variable p x) t) r
-plain_alias d p x t r h k c =
-    (p, Variable x, h.1, _, as_variable (variable p x) h d _, λ z.
-    first_way (refl, (_, refl, (t, k, r, refl, c, λ i. (refl, refl)))))
+plain_alias d p x t r h k c = (
+  p,
+  Variable x,
+  h.1,
+  _,
+  as_variable (variable p x) h d _,
+  λ z.
+      first_way (refl, (_, refl, (t, k, r, refl, c, λ i. (refl, refl)))),
+)
 
 -- Maps.
 
@@ -248,79 +461,358 @@ look_way s d (alias (noted p x n) t) r h c o =
 look_way s d (alias x t) r h c o = never (assumption h.1)
 look_way s d (list p none) r h c o =
     (p, Symbol S.OpenBracket, h.0, _, refl, λ z. second_way (refl, (r, refl, (refl, refl))))
-look_way s d (list p (more x xs)) r h c o =
-    (p, Symbol S.OpenBracket, h.0, _, refl, λ z. first_way (opens_tree (item_sort s) (suc d) x _, ((x, xs), h.1, _, refl,
-    (refl, (refl, (refl, tt))), λ y. second_way (refl, (r, refl, (refl, refl))))))
-look_way s d (list_on p x xs u) r h c o =
-    (p, Symbol S.OpenBracket, h.0, _, refl, λ z. first_way (opens_tree (item_sort s) (suc d) x _,
-    ((x, xs), (h.1, h.2), _, refl, (refl, (refl, (refl, tt))), λ y. first_way (refl, (_, refl,
-    (u, h.3, _, refl, (refl, (refl, tt)), λ w. (r, refl, (refl, refl))))))))
+look_way s d (list p (more x xs)) r h c o = (
+  p,
+  Symbol S.OpenBracket,
+  h.0,
+  _,
+  refl,
+  λ z. first_way (
+    opens_tree (item_sort s) (suc d) x _,
+    (
+      (x, xs),
+      h.1,
+      _,
+      refl,
+      (refl, (refl, (refl, tt))),
+      λ y. second_way (refl, (r, refl, (refl, refl))),
+    ),
+  ),
+)
+look_way s d (list_on p x xs u) r h c o = (
+  p,
+  Symbol S.OpenBracket,
+  h.0,
+  _,
+  refl,
+  λ z. first_way (
+    opens_tree (item_sort s) (suc d) x _,
+    (
+      (x, xs),
+      (h.1, h.2),
+      _,
+      refl,
+      (refl, (refl, (refl, tt))),
+      λ y. first_way (
+        refl,
+        (
+          _,
+          refl,
+          (u, h.3, _, refl, (refl, (refl, tt)), λ w. (r, refl, (refl, refl))),
+        ),
+      ),
+    ),
+  ),
+)
 look_way s d (tuple p none) r h c o =
     (p, Symbol S.OpenBrace, h.0, _, refl, λ z. second_way (refl, (r, refl, (refl, refl))))
-look_way s d (tuple p (more x xs)) r h c o =
-    (p, Symbol S.OpenBrace, h.0, _, refl, λ z. first_way (opens_tree (item_sort s) (suc d) x _, ((x, xs), h.1, _, refl,
-    (refl, (refl, (refl, tt))), λ y. (r, refl, (refl, refl)))))
+look_way s d (tuple p (more x xs)) r h c o = (
+  p,
+  Symbol S.OpenBrace,
+  h.0,
+  _,
+  refl,
+  λ z. first_way (
+    opens_tree (item_sort s) (suc d) x _,
+    (
+      (x, xs),
+      h.1,
+      _,
+      refl,
+      (refl, (refl, (refl, tt))),
+      λ y. (r, refl, (refl, refl)),
+    ),
+  ),
+)
 look_way s d (values p none) r h c o =
     (p, Symbol S.OpenAngle, h.0, _, refl, λ z. second_way (refl, (r, refl, (refl, refl))))
-look_way s d (values p (more x xs)) r h c o =
-    (p, Symbol S.OpenAngle, h.0, _, refl, λ z. first_way (opens_tree expression (suc d) x _, ((x, xs), h.1, _, refl,
-    (refl, (refl, (refl, tt))), λ y. (r, refl, (refl, refl)))))
+look_way s d (values p (more x xs)) r h c o = (
+  p,
+  Symbol S.OpenAngle,
+  h.0,
+  _,
+  refl,
+  λ z. first_way (
+    opens_tree expression (suc d) x _,
+    (
+      (x, xs),
+      h.1,
+      _,
+      refl,
+      (refl, (refl, (refl, tt))),
+      λ y. (r, refl, (refl, refl)),
+    ),
+  ),
+)
 look_way s d (new_map p no_pair) r h c o =
     (p, Symbol S.OpenMap, h.0, _, refl, λ z. second_way (refl, map_none s d p no_pair z tt r))
-look_way s d (new_map p (pair x b u ps)) r h c o =
-    (p, Symbol S.OpenMap, h.0, _, refl, λ z. first_way (opens_tree (key_sort s) (suc d) x _, ((x, b, u, ps), h.1, _, refl,
-    (refl, (refl, (refl, tt))), λ y. map_none s d p (pair x b u ps) z y r)))
-look_way s d (map_on p no_pair t) r h c o =
-    (p, Symbol S.OpenMap, expression_constant s h.0, _, refl, λ z. second_way (refl,
-    map_some s d p no_pair t z tt r h.0 h.2))
-look_way s d (map_on p (pair x b u ps) t) r h c o =
-    (p, Symbol S.OpenMap, expression_constant s h.0, _, refl, λ z. first_way (opens_tree (key_sort s) (suc d) x _,
-    ((x, b, u, ps), h.1, _, refl, (refl, (refl, (refl, tt))), λ y. map_some s d p (pair x b u ps) t z y r h.0 h.2)))
+look_way s d (new_map p (pair x b u ps)) r h c o = (
+  p,
+  Symbol S.OpenMap,
+  h.0,
+  _,
+  refl,
+  λ z. first_way (
+    opens_tree (key_sort s) (suc d) x _,
+    (
+      (x, b, u, ps),
+      h.1,
+      _,
+      refl,
+      (refl, (refl, (refl, tt))),
+      λ y. map_none s d p (pair x b u ps) z y r,
+    ),
+  ),
+)
+look_way s d (map_on p no_pair t) r h c o = (
+  p,
+  Symbol S.OpenMap,
+  expression_constant s h.0,
+  _,
+  refl,
+  λ z. second_way (
+    refl,
+    map_some s d p no_pair t z tt r h.0 h.2,
+  ),
+)
+look_way s d (map_on p (pair x b u ps) t) r h c o = (
+  p,
+  Symbol S.OpenMap,
+  expression_constant s h.0,
+  _,
+  refl,
+  λ z. first_way (
+    opens_tree (key_sort s) (suc d) x _,
+    ((x, b, u, ps), h.1, _, refl, (refl, (refl, (refl, tt))), λ y. map_some s d p (pair x b u ps) t z y r h.0 h.2),
+  ),
+)
 look_way s d (binary p no_segment) r h c o =
     (p, Symbol S.OpenBinary, binary_taken s no_segment h.0, _, refl, λ z. second_way (refl, (r, refl, (refl, refl))))
-look_way s d (binary p (and_segment g gs)) r h c o =
-    (p, Symbol S.OpenBinary, binary_taken s (and_segment g gs) h.0, _, refl, λ z. first_way (opens_segment s (suc d) g _,
-    ((g, gs), (h.1, strict_bits s (and_segment g gs) h.0), _, refl, (refl, tt), λ y. (r, refl, (refl, refl)))))
+look_way s d (binary p (and_segment g gs)) r h c o = (
+  p,
+  Symbol S.OpenBinary,
+  binary_taken s (and_segment g gs) h.0,
+  _,
+  refl,
+  λ z. first_way (
+    opens_segment s (suc d) g _,
+    ((g, gs), (h.1, strict_bits s (and_segment g gs) h.0), _, refl, (refl, tt), λ y. (r, refl, (refl, refl))),
+  ),
+)
 look_way s d (fun p xs t) r h c o = fun_way s d p xs t r h.0 h.1 h.2 c
 look_way s d (let_in p xs t u) r h c o =
     (p, Word W.Let, h.0, _, refl, λ z. (xs, h.1, _, refl, (refl, (refl, tt)), λ y. (_, refl, (t, h.2, _, refl, (refl, (refl, tt)), λ y. (_, refl, (u, h.3, r, refl, (plain s d (suc d) r c), λ y. (refl, refl)))))))
 look_way s d (letrec p no_definition t) r h c o =
     (p, Word W.Letrec, h.0, _, refl, λ z. second_way (refl, (_, refl, (t, h.2, r, refl, (plain s d (suc d) r c), λ y. (refl, refl)))))
-look_way s d (letrec p (definition x v ds) t) r h c o =
-    (p, Word W.Letrec, h.0, _, refl, λ z. first_way (opens_tree a_name (suc (suc d)) x _, ((x, v, ds), h.1, _, refl,
-    (refl, (refl, (refl, tt))), λ y. (_, refl, (t, h.2, r, refl, (plain s d (suc d) r c), λ y. (refl, refl))))))
+look_way s d (letrec p (definition x v ds) t) r h c o = (
+  p,
+  Word W.Letrec,
+  h.0,
+  _,
+  refl,
+  λ z. first_way (
+    opens_tree a_name (suc (suc d)) x _,
+    (
+      (x, v, ds),
+      h.1,
+      _,
+      refl,
+      (refl, (refl, (refl, tt))),
+      λ y. (_, refl, (t, h.2, r, refl, (plain s d (suc d) r c), λ y. (refl, refl))),
+    ),
+  ),
+)
 look_way s d (case p t k no_clause) r h c o =
     (p, Word W.Case, h.0, _, refl, λ z. (t, h.1, _, refl, (refl, (refl, tt)), λ y. (_, refl, (k, h.2, _, refl, (refl, (refl, (refl, tt))), λ x. second_way (refl, (r, refl, (refl, refl)))))))
-look_way s d (case p t k (and_clause q qs)) r h c o =
-    (p, Word W.Case, h.0, _, refl, λ z. (t, h.1, _, refl, (refl, (refl, tt)), λ y. (_, refl, (k, h.2, _, refl, clause_calm (suc d) q _, λ x.
-    first_way (opens_clause (suc d) q _, ((q, qs), h.3, _, refl, (refl, (refl, (refl, (refl, tt)))), λ w. (r, refl, (refl, refl))))))))
+look_way s d (case p t k (and_clause q qs)) r h c o = (
+  p,
+  Word W.Case,
+  h.0,
+  _,
+  refl,
+  λ z. (
+    t,
+    h.1,
+    _,
+    refl,
+    (refl, (refl, tt)),
+    λ y. (
+      _,
+      refl,
+      (
+        k,
+        h.2,
+        _,
+        refl,
+        clause_calm (suc d) q _,
+        λ x.
+            first_way (opens_clause (suc d) q _, ((q, qs), h.3, _, refl, (refl, (refl, (refl, (refl, tt)))), λ w. (r, refl, (refl, refl)))),
+      ),
+    ),
+  ),
+)
 look_way s d (apply p t none) r h c o =
     (p, Word W.Apply, h.0, _, refl, λ z. (t, h.1, _, refl, (refl, (refl, tt)), λ y. (_, refl, second_way (refl, (r, refl, (refl, refl))))))
-look_way s d (apply p t (more x xs)) r h c o =
-    (p, Word W.Apply, h.0, _, refl, λ z. (t, h.1, _, refl, (refl, (refl, tt)), λ y. (_, refl, first_way (opens_tree expression (suc d) x _,
-    ((x, xs), h.2, _, refl, (refl, (refl, (refl, tt))), λ w. (r, refl, (refl, refl)))))))
+look_way s d (apply p t (more x xs)) r h c o = (
+  p,
+  Word W.Apply,
+  h.0,
+  _,
+  refl,
+  λ z. (
+    t,
+    h.1,
+    _,
+    refl,
+    (refl, (refl, tt)),
+    λ y. (
+      _,
+      refl,
+      first_way (
+        opens_tree expression (suc d) x _,
+        ((x, xs), h.2, _, refl, (refl, (refl, (refl, tt))), λ w. (r, refl, (refl, refl))),
+      ),
+    ),
+  ),
+)
 look_way s d (call_of p t u none) r h c o =
     (p, Word W.Call, h.0, _, refl, λ z. (t, h.1, _, refl, (refl, (refl, tt)), λ y. (_, refl, (u, h.2, _, refl, (refl, (refl, tt)), λ y. (_, refl, second_way (refl, (r, refl, (refl, refl))))))))
-look_way s d (call_of p t u (more x xs)) r h c o =
-    (p, Word W.Call, h.0, _, refl, λ z. (t, h.1, _, refl, (refl, (refl, tt)), λ y. (_, refl, (u, h.2, _, refl, (refl, (refl, tt)), λ y. (_, refl, first_way (opens_tree expression (suc d) x _,
-    ((x, xs), h.3, _, refl, (refl, (refl, (refl, tt))), λ w. (r, refl, (refl, refl)))))))))
+look_way s d (call_of p t u (more x xs)) r h c o = (
+  p,
+  Word W.Call,
+  h.0,
+  _,
+  refl,
+  λ z. (
+    t,
+    h.1,
+    _,
+    refl,
+    (refl, (refl, tt)),
+    λ y. (
+      _,
+      refl,
+      (
+        u,
+        h.2,
+        _,
+        refl,
+        (refl, (refl, tt)),
+        λ y. (
+          _,
+          refl,
+          first_way (
+            opens_tree expression (suc d) x _,
+            ((x, xs), h.3, _, refl, (refl, (refl, (refl, tt))), λ w. (r, refl, (refl, refl))),
+          ),
+        ),
+      ),
+    ),
+  ),
+)
 look_way s d (primop p a none) r h c o =
     (p, Word W.Primop, h.0, _, refl, λ z. (a.place, Atom a.name, refl, _, refl, λ v. (_, refl, second_way (refl, (r, refl, (refl, refl))))))
-look_way s d (primop p a (more x xs)) r h c o =
-    (p, Word W.Primop, h.0, _, refl, λ z. (a.place, Atom a.name, refl, _, refl, λ v. (_, refl, first_way (opens_tree expression (suc d) x _,
-    ((x, xs), h.1, _, refl, (refl, (refl, (refl, tt))), λ w. (r, refl, (refl, refl)))))))
+look_way s d (primop p a (more x xs)) r h c o = (
+  p,
+  Word W.Primop,
+  h.0,
+  _,
+  refl,
+  λ z. (
+    a.place,
+    Atom a.name,
+    refl,
+    _,
+    refl,
+    λ v. (
+      _,
+      refl,
+      first_way (
+        opens_tree expression (suc d) x _,
+        ((x, xs), h.1, _, refl, (refl, (refl, (refl, tt))), λ w. (r, refl, (refl, refl))),
+      ),
+    ),
+  ),
+)
 look_way s d (do_then p t u) r h c o =
     (p, Word W.Do, h.0, _, refl, λ z. (t, h.1, _, refl, tree_calm (suc d) u r, λ y. (u, h.2, r, refl, (plain s d (suc d) r c), λ y. (refl, refl))))
 look_way s d (catch p t) r h c o = (p, Word W.Catch, h.0, _, refl, λ z. (t, h.1, r, refl, (plain s d (suc d) r c), λ y. (refl, refl)))
-look_way s d (try p t xs u ys v) r h c o =
-    (p, Word W.Try, h.0, _, refl, λ z. (t, h.1, _, refl, (refl, (refl, tt)), λ y. (_, refl, (xs, h.2, _, refl, (refl, (refl, tt)), λ x. (_, refl,
-    (u, h.3, _, refl, (refl, (refl, tt)), λ y. (_, refl, (ys, h.4, _, refl, group_calm (suc d) ys (on true expression (suc d) v r), λ w. (_, refl,
-    (v, h.5, r, refl, (plain s d (suc d) r c), λ y. (refl, refl)))))))))))
+look_way s d (try p t xs u ys v) r h c o = (
+  p,
+  Word W.Try,
+  h.0,
+  _,
+  refl,
+  λ z. (
+    t,
+    h.1,
+    _,
+    refl,
+    (refl, (refl, tt)),
+    λ y. (
+      _,
+      refl,
+      (
+        xs,
+        h.2,
+        _,
+        refl,
+        (refl, (refl, tt)),
+        λ x. (
+          _,
+          refl,
+          (
+            u,
+            h.3,
+            _,
+            refl,
+            (refl, (refl, tt)),
+            λ y. (
+              _,
+              refl,
+              (
+                ys,
+                h.4,
+                _,
+                refl,
+                group_calm (suc d) ys (on true expression (suc d) v r),
+                λ w. (
+                  _,
+                  refl,
+                  (v, h.5, r, refl, (plain s d (suc d) r c), λ y. (refl, refl)),
+                ),
+              ),
+            ),
+          ),
+        ),
+      ),
+    ),
+  ),
+)
 look_way s d (receive p no_clause t u) r h c o =
     (p, Word W.Receive, h.0, _, refl, λ z. second_way (refl, (_, refl, (t, h.2, _, refl, (refl, (refl, tt)), λ y. (_, refl, (u, h.3, r, refl, (plain s d (suc d) r c), λ y. (refl, refl)))))))
-look_way s d (receive p (and_clause q qs) t u) r h c o =
-    (p, Word W.Receive, h.0, _, refl, λ z. first_way (opens_clause (suc d) q _, ((q, qs), h.1, _, refl, (refl, (refl, (refl, (refl, tt)))), λ x. (_, refl,
-    (t, h.2, _, refl, (refl, (refl, tt)), λ y. (_, refl, (u, h.3, r, refl, (plain s d (suc d) r c), λ y. (refl, refl))))))))
+look_way s d (receive p (and_clause q qs) t u) r h c o = (
+  p,
+  Word W.Receive,
+  h.0,
+  _,
+  refl,
+  λ z. first_way (
+    opens_clause (suc d) q _,
+    (
+      (q, qs),
+      h.1,
+      _,
+      refl,
+      (refl, (refl, (refl, (refl, tt)))),
+      λ x. (
+        _,
+        refl,
+        (t, h.2, _, refl, (refl, (refl, tt)), λ y. (_, refl, (u, h.3, r, refl, (plain s d (suc d) r c), λ y. (refl, refl)))),
+      ),
+    ),
+  ),
+)
 
 noted_key : (d : ℕ) (p q : Place) (t n : Tree) (r : List Sign) → q ≡ p → (i : Stands key t) → Stands note n
     → Along (noted_key_plan d q t i) (noted p t n)

@@ -1,9 +1,9 @@
 //! Laws of the texts of Core Erlang: what their tokens are, and that every list of tokens has its one answer.
 //!
-//! `module 'm' [] attributes [] end` is a text, and of one tree alone. Without its `[` the first fault is the `]`, since
-//! `module 'm'` begins texts and `module 'm' ]` begins none. In 2,001 braces, all tokens of which begin a text, the
-//! first token that is too deep is the fault. No tokens are two of these at once, and closed ones, which end with the
-//! end of the text or with a bad token, are one of them.
+//! `module 'm' [] attributes [] end` is a text, and of one tree alone. Without its first `[` the fault is the `]`, since
+//! `module 'm'` begins texts and `module 'm' ]` begins none. Where braces stand in braces, and so on, the fault is the
+//! first token deeper than 2,000. No tokens are two of these at once, and closed ones, which end with the end of the
+//! text or with a bad token, are one of them.
 //!
 //! Why: the grammar is a stack of plans (proofs/Plans.antt, proofs/Stacks.antt). A plan is what is still to come of a
 //! part of a text, and takes one token a step, without looking further ahead. Three facts hold of every step: what was
