@@ -8,7 +8,7 @@ use Rattle.core_grammar.specs.WrittenTree.{Spelled, Tree, variable, noted, alias
 use Rattle.core_grammar.specs.Standing.{Sort, expression, pattern, constant, note, key, segment_value, a_variable, a_name, an_atom, a_fun, takes_pair, item_sort, key_sort, value_sort, Stands, RowStands, PairsStand, SegmentStands, DefinitionsStand, AttributesStand, IsModule}
 use Rattle.core_grammar.specs.ConstantTerms.{constant_of, integer_value, count_value, is_integer_kind}
 use Rattle.core_grammar.specs.Signs.{Sign, symbol, kept_word, pair_symbol, on, row_on, pairs_on, definitions_on, attributes_on, module_on}
-use Rattle.core_texts.proofs.Parts.{Head, whole, part, Part, tree_part, items_part, group_part, pairs_part, segment_part, segments_part, head_part, clause_part, clauses_part, definitions_part, attributes_part, module_part, value_part, size_part, unit_part, kind_part, flags_part, flag_part, flag_items_part, Value, signs_of, Right, Follows, head_on, HeadRight, is_strict, has_bits}
+use Rattle.core_texts.proofs.Parts.{Head, whole, part, here, Part, tree_part, items_part, group_part, pairs_part, segment_part, segments_part, head_part, clause_part, clauses_part, definitions_part, attributes_part, module_part, value_part, size_part, unit_part, kind_part, flags_part, flag_part, flag_items_part, Value, signs_of, Right, Follows, head_on, HeadRight, is_strict, has_bits}
 use Rattle.core_texts.proofs.Fronts.{is_angle, is_paren, equals_in, front}
 use Rattle.core_texts.proofs.Truths.{never, and_left, and_right}
 use Rattle.core_texts.proofs.Opens.{no_front, opens_tree, opens_clause, opened}
@@ -517,7 +517,7 @@ head_way d (whole (noted_clause q n)) r h c =
         (
           whole q,
           h.0,
-          record { line = 1; column = 1 },
+          here,
           _,
           refl,
           (refl, (refl, (refl, tt))),

@@ -200,8 +200,8 @@ some_variable = variable here (codes "A")
 abbrev pub zero_tree : Tree
 zero_tree = number here false (pos 0)
 
-abbrev pub one_tree_number : Tree
-one_tree_number = number here false (pos 1)
+abbrev pub unit_one : Tree
+unit_one = number here false (pos 1)
 
 abbrev pub least_tree : Sort → Tree
 least_tree key = some_variable
@@ -221,7 +221,7 @@ abbrev pub integer_kind : Tree
 integer_kind = atom here (codes "integer")
 
 abbrev pub least_segment : Segment
-least_segment = segment here zero_tree zero_tree one_tree_number integer_kind nil
+least_segment = segment here zero_tree zero_tree unit_one integer_kind nil
 
 abbrev pub the_flag : Tree
 the_flag = atom here (codes "big")
@@ -245,7 +245,7 @@ least (attributes_part d) = (least_tree an_atom, nil, no_attribute)
 least (module_part d) = plain_module (record { place = here; name = [] }) none no_attribute no_definition
 least (value_part d) = zero_tree
 least (size_part d) = zero_tree
-least (unit_part n d) = one_tree_number
+least (unit_part n d) = unit_one
 least (kind_part d) = integer_kind
 least (flags_part d) = nil
 least (flag_part d) = the_flag

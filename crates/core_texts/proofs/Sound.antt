@@ -13,7 +13,7 @@ use Rattle.core_grammar.specs.Signs.{of_kind, at_place, an_arity, Sign, plain_si
 use Rattle.core_grammar.specs.Texts.{last_depth}
 use Rattle.core_texts.proofs.Truths.{never, and_left, and_right}
 use Rattle.core_texts.proofs.TokenTests.{is_symbol, is_symbol_is, is_word, is_word_is, is_end, is_end_is}
-use Rattle.core_texts.proofs.Parts.{Part, Value, signs_of, Right, least}
+use Rattle.core_texts.proofs.Parts.{Part, Value, signs_of, Right, here, least}
 use Rattle.core_texts.proofs.Least.{least_right}
 use Rattle.core_texts.proofs.Overs.{Over, over_more, last_is}
 use Rattle.core_texts.proofs.Plans.{Plan, done, symbol_next, word_next, arity_next, look, call, bracket, if_next, symbol_sign, Bracket}
@@ -49,11 +49,11 @@ ending (call v f) =
     let x = ending (f (least v) (least_right v)) in
     record { value = x.value; right = x.right; more = λ r. signs_of v (least v) (x.more r); is = x.is }
 ending (bracket v s f) =
-    let x = ending (f (record { line = 1; column = 1 }) (least v) (least_right v)) in
+    let x = ending (f here (least v) (least_right v)) in
     record {
       value = x.value;
       right = x.right;
-      more = λ r. plain_sign (s.deep (least v)) (s.sight (record { line = 1; column = 1 }) (least v))
+      more = λ r. plain_sign (s.deep (least v)) (s.sight here (least v))
           ∷ signs_of v (least v) (x.more r);
       is = x.is;
     }

@@ -86,7 +86,7 @@ abbrev pub open_segment_plan : {w : Part} {k : List Sign → List Sign} (d : ℕ
     → ((p : Place) → Plan w (λ r. k (token_at d p (Symbol S.OpenSegment) r))) → Plan w k
 open_segment_plan {k = k} d f = look (segment_looked d) (from_segment k d f)
 
--- - | note )
+-- `-|` note )
 abbrev pub note_plan : {w : Part} {k : List Sign → List Sign} (d : ℕ)
     → ((n : Tree) → Stands note n
     → Plan w (λ r. k (symbol d S.AnnotationBar (on true note d n (symbol d S.CloseParen r))))) → Plan w k
