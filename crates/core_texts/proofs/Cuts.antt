@@ -1,5 +1,5 @@
 -- Two places where the same tokens are cut, and beginnings of beginnings.
-use Rattle.std.proofs.Common.{◌≡◌, refl, sym, ap, ◌∙◌, subst, List, [], ◌∷◌, ◌++◌, Bool, true, false}
+use Rattle.std.proofs.Common.{◌≡◌, refl, sym, ap, ◌∙◌, subst, List, [], ◌∷◌, ◌++◌}
 use Rattle.core_lex.specs.declared.token.Token.{Token}
 use Rattle.core_grammar.specs.Signs.{Sign, FitFront, FitWhole}
 use Rattle.core_grammar.specs.Texts.{BeginsModule}

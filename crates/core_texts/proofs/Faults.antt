@@ -1,10 +1,10 @@
 -- A fault has one place, and tokens have one answer.
-use Rattle.std.proofs.Common.{◌≡◌, refl, sym, ap, ◌∙◌, subst, List, [], ◌∷◌, ◌++◌}
+use Rattle.std.proofs.Common.{◌≡◌, sym, ap, ◌∙◌, subst, List, [], ◌∷◌, ◌++◌}
 use Rattle.erl_base.specs.declared.ids.Place.{Place}
 use Rattle.core_lex.specs.declared.token.Token.{Token}
 use Rattle.core_form.specs.Core.{Module}
 use Rattle.core_grammar.specs.Signs.{signs}
-use Rattle.core_grammar.specs.Texts.{ModuleText, BeginsModule, SyntaxFault, FirstSyntaxFault, NestingFault, NestsWithin, most_depth, IsDeeper}
+use Rattle.core_grammar.specs.Texts.{ModuleText, BeginsModule, SyntaxFault, FirstSyntaxFault, NestingFault}
 use Rattle.core_texts.specs.Answers.{OnePlace, OneAnswer}
 use Rattle.core_texts.proofs.Cuts.{Cut, here, sooner, later, compare, assoc, front_of_whole, begins_up_to}
 

@@ -1,25 +1,18 @@
 -- What the next sign may be, behind a tree and before one.
 use Rattle.std.proofs.Common.{◌≡◌, refl, ℕ, suc, List, [], ◌∷◌, Bool, true, false}
 use Rattle.core_lex.specs.declared.token.TokenKind.{TokenKind}
-use Rattle.core_lex.specs.declared.token.TokenKind.TheVariants.{Word, Symbol}
-use Rattle.core_lex.specs.declared.token.Word as Words
+use Rattle.core_lex.specs.declared.token.TokenKind.TheVariants.{Symbol}
 use Rattle.core_lex.specs.declared.token.Symbol.TheVariants as S
-use Rattle.core_grammar.specs.WrittenTree.{Tree, alias, Row, none, more, Group, single, angled, Pairs, no_pair, pair, Segment, segment, noted_segment, Segments, no_segment, and_segment, Clause, clause, noted_clause, Clauses, no_clause, and_clause, Definitions, no_definition, definition}
-use Rattle.core_grammar.specs.Standing.{Sort, pattern, a_variable, a_name}
-use Rattle.core_grammar.specs.Signs.{Sign, kept_word, on, row_on, group_on, pairs_on, segment_on, segments_on, clause_on, clauses_on, definitions_on}
-use Rattle.core_texts.proofs.Taking.{never, front}
-use Rattle.core_texts.proofs.Reading.{opens, is_slash, is_comma, equals_in}
+use Rattle.core_grammar.specs.WrittenTree.{Tree, alias, Group, single, angled, Segment, segment, noted_segment, Clause, clause, noted_clause}
+use Rattle.core_grammar.specs.Standing.{Sort, pattern, a_variable}
+use Rattle.core_grammar.specs.Signs.{Sign, on, group_on, segment_on, clause_on}
+use Rattle.core_texts.proofs.Truths.{never}
+use Rattle.core_texts.proofs.Fronts.{front, opens, is_slash, equals_in}
 
 -- what may stand behind a tree
 pub record Calm (m : Bool) (r : List Sign) : Type 0 where
   pub slash : front is_slash r ≡ false
   pub equals : front (equals_in m) r ≡ false
-
--- what may stand behind items
-pub record Shut (m : Bool) (r : List Sign) : Type 0 where
-  pub calm : Calm m r
-  pub comma : front is_comma r ≡ false
-  pub opening : front opens r ≡ false
 
 no_slash : (k : TokenKind) → opens k ≡ true → is_slash k ≡ false
 no_slash (Symbol S.Slash) h = never h
@@ -38,13 +31,9 @@ equals_nowhere : (k : TokenKind) → equals_in false k ≡ false
 equals_nowhere (Symbol S.Equals) = refl
 equals_nowhere _ = refl
 
-no_front : (r : List Sign) → front (equals_in false) r ≡ false
+pub no_front : (r : List Sign) → front (equals_in false) r ≡ false
 no_front [] = refl
 no_front (g ∷ gs) = equals_nowhere _
-
--- elsewhere than in patterns
-pub plain : (m : Bool) (r : List Sign) → Calm m r → Calm false r
-plain m r c = record { slash = c.slash; equals = no_front r }
 
 pub opens_tree : (s : Sort) (d : ℕ) (t : Tree) (r : List Sign) → front opens (on true s d t r) ≡ true
 opens_tree s d (alias x t) r = opens_tree a_variable (suc d) x _
@@ -61,22 +50,3 @@ opens_group d (angled p ts) r = refl
 pub opens_clause : (d : ℕ) (c : Clause) (r : List Sign) → front opens (clause_on true d c r) ≡ true
 opens_clause d (clause ts t u) r = opens_group (suc d) ts _
 opens_clause d (noted_clause c n) r = refl
-
-pub row_calm : (m : Bool) (s : Sort) (d : ℕ) (ts : Row) (r : List Sign) → Shut m r
-    → Calm m (row_on true false s d ts r)
-row_calm m s d none r h = h.calm
-row_calm m s d (more t ts) r h = record { slash = refl; equals = refl }
-
-pub pairs_calm : (m : Bool) (s : Sort) (d : ℕ) (ps : Pairs) (r : List Sign) → Shut m r
-    → Calm m (pairs_on true false s d ps r)
-pairs_calm m s d no_pair r h = h.calm
-pairs_calm m s d (pair t x u ps) r h = record { slash = refl; equals = refl }
-
-pub clauses_calm : (d : ℕ) (cs : Clauses) (r : List Sign) → Calm false r → Calm false (clauses_on true d cs r)
-clauses_calm d no_clause r h = h
-clauses_calm d (and_clause c cs) r h = opened false _ (opens_clause d c _)
-
-pub definitions_calm : (d : ℕ) (ds : Definitions) (r : List Sign) → Calm false r
-    → Calm false (definitions_on true d ds r)
-definitions_calm d no_definition r h = h
-definitions_calm d (definition x t ds) r h = opened false _ (opens_tree a_name (suc d) x _)

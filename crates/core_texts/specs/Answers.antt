@@ -19,3 +19,9 @@ pub record OneAnswer (ts : List Token) : Type 0 where
   pub text_or_syntax : (m : Module) (p : Place) → ModuleText ts m → SyntaxFault ts p → ⊥
   pub text_or_nesting : (p : Place) → NestsWithin most_depth ts → NestingFault ts p → ⊥
   pub syntax_or_nesting : (p q : Place) → FirstSyntaxFault ts p → NestingFault ts q → ⊥
+
+-- what closed tokens are
+pub data Answer (ts : List Token) : Type 0 where
+  is_text : (m : Module) → ModuleText ts m → NestsWithin most_depth ts → Answer ts
+  has_syntax_fault : (p : Place) → FirstSyntaxFault ts p → Answer ts
+  has_nesting_fault : (p : Place) → NestingFault ts p → Answer ts
