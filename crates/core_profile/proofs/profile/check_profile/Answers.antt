@@ -13,10 +13,10 @@ pub returns : goal.returns
 returns c =
     let m = module_view c.args.tree.now in
     let e : c.in_defs.result ≡ first_with None (profile_faults m) =
-        c.in_defs.ensures ∙ ap (λ l. met_in_defs (defs (map def_view l)) c.keep_float.result) c.as_slice.ensures
-        ∙ (in_defs m.defs).at c.keep_float.result
-        ∙ ap (λ o. first_with o (all_defs outside_of m.defs)) c.keep_float.ensures
-        ∙ sym (first_with_both None (float_fault m.floats) (all_defs outside_of m.defs)) in
+    c.in_defs.ensures ∙ ap (λ l. met_in_defs (defs (map def_view l)) c.keep_float.result) c.as_slice.ensures
+    ∙ (in_defs m.defs).at c.keep_float.result
+    ∙ ap (λ o. first_with o (all_defs outside_of m.defs)) c.keep_float.ensures
+    ∙ sym (first_with_both None (float_fault m.floats) (all_defs outside_of m.defs)) in
     record {
       ok = IfOk-weaker c.answer.result (λ u. c.in_defs.result ≡ None) (λ u. profile_faults m ≡ [])
           (λ u n. none_kept (profile_faults m) c.in_defs.result e n) c.answer.ensures.ok;
