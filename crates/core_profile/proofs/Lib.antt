@@ -3,4 +3,8 @@ mod Texts
 mod TermForms
 mod Counts
 mod Kept
+mod Same
+mod Goes
+mod Walked
+mod WholeModule
 mod Examples

@@ -1,5 +1,5 @@
 -- Which limits a module passes, nesting aside (this project's own).
-use Rattle.std.specs.Prelude.{ℕ, suc, ◌+◌, List, [], ◌∷◌, ◌++◌, length, eqb, ltb, min, Option, Some, None}
+use Rattle.std.specs.Prelude.{ℕ, ◌+◌, List, [], ◌∷◌, ◌++◌, length, eqb, ltb, min, Option, Some, None}
 use Rattle.erl_base.specs.declared.ids.Place.{Place}
 use Rattle.erl_base.specs.declared.refusal.Refusal.{Refusal}
 use Rattle.erl_base.specs.declared.refusal.Kind.TheVariants.{Limit}
@@ -88,8 +88,8 @@ abbrev pub definition_limits : (all : ℕ) → (k : ℕ) → Defs → List Refus
 definition_limits all k no_def = []
 definition_limits all k (and_def (def p f e) ds) =
     over Nodes most_nodes p (nodes e)
-    ++ fault_if (eqb k most_definitions) p (Limit Definitions (capped all))
-    ++ definition_limits all (suc k) ds
+    ++ fault_if (eqb k most_definitions) p (Limit Definitions all)
+    ++ definition_limits all (k + 1) ds
 
 -- all limits that a module passes
 abbrev pub limit_faults : Module → List Refusal

@@ -9,8 +9,11 @@
 //! Names and degrees are judged elsewhere, and nesting with the grammar.
 #![tactic(auto)]
 
+mod limits;
 mod profile;
+mod progress;
 mod segments;
 mod words;
 
+pub use limits::check_limits_by;
 pub use profile::check_profile;
