@@ -3,8 +3,8 @@ use Rattle.pass_line.specs.PlainModule.{are_known}
 use Rattle.pass_line.proofs.Plainness.{too_many, doubled, attributed, told}
 use Rattle.pass_line.proofs.plain.is_plain.Goals as goal
 
-pub returns-then-len-gt20000 : goal.returns-then-len-gt20000
-returns-then-len-gt20000 c = (λ t. absurd cc, λ p. absurd (too_many c.args.tree.now.defs (omega arith) p.few_functions))
+pub returns-then-len-gt-MOST_FUNCTIONS : goal.returns-then-len-gt-MOST_FUNCTIONS
+returns-then-len-gt-MOST_FUNCTIONS c = (λ t. absurd cc, λ p. absurd (too_many c.args.tree.now.defs (omega arith) p.few_functions))
 
 pub returns-then-not-is_empty : goal.returns-then-not-is_empty
 returns-then-not-is_empty c = (λ t. absurd cc, λ p. absurd (attributed c.args.tree.now (λ e. search (rules, e)) p))
