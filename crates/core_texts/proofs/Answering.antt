@@ -8,7 +8,7 @@ use Rattle.core_grammar.specs.WrittenTree.{Written}
 use Rattle.core_grammar.specs.Standing.{IsModule}
 use Rattle.core_grammar.specs.Signs.{of_kind, Sign, plain_sign, module_on, signs, FitFront}
 use Rattle.core_grammar.specs.ModuleOf.{module_of}
-use Rattle.core_grammar.specs.Texts.{BeginsModule, NestsWithin, IsDeeper, last_depth, most_depth}
+use Rattle.core_grammar.specs.Texts.{BeginsModule, NestsWithin, IsDeeper, FirstSyntaxFault, last_depth, most_depth}
 use Rattle.core_texts.specs.Answers.{Answer, is_text, has_syntax_fault, has_nesting_fault}
 use Rattle.core_texts.proofs.Cuts.{assoc}
 use Rattle.core_texts.proofs.Truths.{never}
@@ -22,7 +22,7 @@ use Rattle.core_texts.proofs.Bodies.{body}
 use Rattle.core_texts.proofs.Tracks.{Tracked, start, tracked_start, stepped, tracked_on}
 
 -- a state that these tokens lead to, none of them too deep
-record Led (before : List Token) (s : State) : Type 0 where
+pub record Led (before : List Token) (s : State) : Type 0 where
   pub good : Good before s
   pub begins : BeginsModule before
   pub within : NestsWithin most_depth before
@@ -43,7 +43,7 @@ nothing_deep [] l e h =
     absurd (omega (arith, d, z))
 nothing_deep (x ∷ b) l e h = never (sym (ap is_none e))
 
-led_start : Led [] start
+pub led_start : Led [] start
 led_start = record {
   good = λ a x r m e c. ap (λ w. module_on true 0 w (plain_sign 0 (of_kind End) ∷ [])) (sym c.0)
       ∙ ap (module_on true 0 a) (sym c.1) ∙ e;
@@ -103,22 +103,25 @@ refused before t s l e b =
     let x = stepped before t s l.tracks b.written b.stands b.fits in
     never (ap is_there (sym e ∙ x.went.is))
 
+pub first_fault : (before : List Token) (t : Token) (later : List Token) (s : State) → Led before s
+    → step body t s ≡ None → FirstSyntaxFault (before ++ t ∷ later) t.place
+first_fault before t later s l e = record {
+  fault = record {
+    before = before;
+    token = t;
+    first = record {
+      cut = record { later = later; cut = refl };
+      begins = l.begins;
+      ends = refused before t s l e;
+    };
+    place = refl;
+  };
+  within = l.within;
+}
+
 syntax_fault : (before : List Token) (t : Token) (later : List Token) (s : State) → Led before s
     → step body t s ≡ None → Answer (before ++ t ∷ later)
-syntax_fault before t later s l e =
-    has_syntax_fault t.place (record {
-      fault = record {
-        before = before;
-        token = t;
-        first = record {
-          cut = record { later = later; cut = refl };
-          begins = l.begins;
-          ends = refused before t s l e;
-        };
-        place = refl;
-      };
-      within = l.within;
-    })
+syntax_fault before t later s l e = has_syntax_fault t.place (first_fault before t later s l e)
 
 reached_begins : (before : List Token) (t : Token) (d : ℕ) → Reached before t d → BeginsModule (before ++ t ∷ [])
 reached_begins before t d r = record {
@@ -152,7 +155,7 @@ nesting_fault before t later s u d l e r h =
       place = refl;
     })
 
-led_on : (before : List Token) (t : Token) (s u : State) (d : ℕ) → Led before s → step body t s ≡ Some (u, d)
+pub led_on : (before : List Token) (t : Token) (s u : State) (d : ℕ) → Led before s → step body t s ≡ Some (u, d)
     → Sound before t u d → d ≤ most_depth → Led (before ++ t ∷ []) u
 led_on before t s u d l e o h = record {
   good = o.good;

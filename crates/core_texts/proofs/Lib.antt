@@ -24,3 +24,4 @@ mod PartWays
 mod Tracks
 mod OneTree
 mod Answering
+mod Computed

@@ -17,6 +17,7 @@ ghost use Rattle.std.specs.Prelude.{List};
 ghost use Rattle.core_lex.specs.declared.token.Token.{Token};
 ghost use Rattle.core_lex.specs.Tokens.{IsClosed};
 ghost use Rattle.core_texts.specs.Answers.{OneTree, OnePlace, OneAnswer, Answer};
+ghost use Rattle.core_texts.specs.Examples.{FaultExamples};
 
 /// A text has one tree, places included.
 pub fn a_text_has_one_tree()
@@ -38,4 +39,10 @@ pub fn tokens_have_one_answer()
 /// Closed tokens have an answer: they are a text within the depth, or have a first fault.
 pub fn closed_tokens_have_an_answer()
     ensures { (ts : List Token) → IsClosed ts → Answer ts }
+{}
+
+/// Texts are refused at the token that no text goes on with.
+#[tactic(auto, using(crate::proofs::Computed::fault_examples))]
+pub fn faults_stand_where_they_may()
+    ensures { FaultExamples }
 {}
