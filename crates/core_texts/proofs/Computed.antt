@@ -3,7 +3,7 @@ use Rattle.std.proofs.Common.{◌≡◌, refl, ap, subst, ℕ, leb, List, [], �
 use Rattle.std.proofs.lemmas.Bool.{leb-true}
 use Rattle.erl_base.specs.declared.ids.Place.{Place}
 use Rattle.core_lex.specs.declared.token.Token.{Token}
-use Rattle.core_lex.specs.Tokens.{tokens, word_at, variable_at, symbol_at, exponent_len, fraction_len, integer_of, number_at, atom_at, string_at, lexeme_at}
+use Rattle.core_lex.specs.Tokens.{tokens, word_at, variable_at, symbol_at, exponent_len, fraction_len, integer_of, number_at, atom_at, lexeme_at}
 use Rattle.core_grammar.specs.Texts.{FirstSyntaxFault, most_depth}
 use Rattle.core_texts.specs.Examples.{FaultExamples}
 use Rattle.core_texts.proofs.Cuts.{assoc}
@@ -37,7 +37,8 @@ place_or q (Some p) = p
 
 small_next : (before : List Token) (t : Token) (ts : List Token) (s u : State) (d : ℕ) (p : Place) → Led before s
     → step body t s ≡ Some (u, d) → Sound before t u d
-    → ((v : State) → Led (before ++ t ∷ []) v → refused_in ts v ≡ Some p → FirstSyntaxFault ((before ++ t ∷ []) ++ ts) p)
+    → ((v : State) → Led (before ++ t ∷ []) v → refused_in ts v ≡ Some p → FirstSyntaxFault
+    ((before ++ t ∷ []) ++ ts) p)
     → (b : Bool) → leb d most_depth ≡ b → where_small b (refused_in ts u) ≡ Some p
     → FirstSyntaxFault (before ++ t ∷ ts) p
 small_next before t ts s u d p l e o f true h k =
@@ -46,7 +47,8 @@ small_next before t ts s u d p l e o f true h k =
 small_next before t ts s u d p l e o f false h k = never (ap is_there k)
 
 by_result : (before : List Token) (t : Token) (ts : List Token) (s : State) (p : Place) → Led before s
-    → ((v : State) → Led (before ++ t ∷ []) v → refused_in ts v ≡ Some p → FirstSyntaxFault ((before ++ t ∷ []) ++ ts) p)
+    → ((v : State) → Led (before ++ t ∷ []) v → refused_in ts v ≡ Some p → FirstSyntaxFault
+    ((before ++ t ∷ []) ++ ts) p)
     → (o : Result) → step body t s ≡ o → Held (Sound before t) o → refused_next o t.place (refused_in ts) ≡ Some p
     → FirstSyntaxFault (before ++ t ∷ ts) p
 by_result before t ts s p l f None e h k =
@@ -66,7 +68,7 @@ refused_at : (ts : List Token) (p : Place) → refused_in ts start ≡ Some p �
 refused_at ts p k = fault_in ts [] start p led_start k
 
 pub fault_examples : FaultExamples
-unfolding tokens lexeme_at word_at variable_at symbol_at number_at fraction_len exponent_len integer_of atom_at string_at
+unfolding tokens lexeme_at word_at variable_at symbol_at number_at fraction_len exponent_len integer_of atom_at
 fault_examples = record {
   no_when = refused_at _ _ refl;
   no_clause = refused_at _ _ refl;

@@ -19,6 +19,8 @@ mod Constants
 mod Bodies
 mod Quick
 mod Ways
+mod TreeWays
+mod ClauseWays
 mod ConstantWays
 mod PartWays
 mod Tracks

@@ -47,7 +47,7 @@ pub record FaultExamples : Type 0 where
       83
   -- the integer that a pattern's segment matches has no annotation
   pub noted_integer : FaultAt
-      "module 'm' [] attributes [] 'f'/0 = fun () -> case X of #{#<( 1 -| [])>(8, 1, 'integer', [])}# when 'a' -> X end end"
+      "module 'm' [] attributes [] 'f'/0 = fun () -> case X of #{#<( 1 -| [])>(8,1,'integer',[])}# when 1 -> X end end"
       63
   -- a key is a variable or a constant
   pub variable_key : FaultAt
