@@ -8,8 +8,8 @@ use Rattle.core_grammar.specs.WrittenTree.{Written}
 use Rattle.core_grammar.specs.Standing.{IsModule}
 use Rattle.core_grammar.specs.Signs.{of_kind, Sign, plain_sign, module_on, signs, FitFront}
 use Rattle.core_grammar.specs.ModuleOf.{module_of}
-use Rattle.core_grammar.specs.Texts.{BeginsModule, NestsWithin, IsDeeper, last_depth, most_depth}
-use Rattle.core_texts.specs.Answers.{Answer, is_text, has_syntax_fault, has_nesting_fault}
+use Rattle.core_grammar.specs.Texts.{BeginsModule, NestsWithin, IsDeeper, FirstSyntaxFault, last_depth, most_depth}
+use Rattle.core_texts.specs.Answers.{TextAnswer, is_text, has_syntax_fault, has_nesting_fault}
 use Rattle.core_texts.proofs.Cuts.{assoc}
 use Rattle.core_texts.proofs.Truths.{never}
 use Rattle.core_texts.proofs.Overs.{last_is, over_front, over_whole}
@@ -22,7 +22,7 @@ use Rattle.core_texts.proofs.Bodies.{body}
 use Rattle.core_texts.proofs.Tracks.{Tracked, start, tracked_start, stepped, tracked_on}
 
 -- a state that these tokens lead to, none of them too deep
-record Led (before : List Token) (s : State) : Type 0 where
+pub record Led (before : List Token) (s : State) : Type 0 where
   pub good : Good before s
   pub begins : BeginsModule before
   pub within : NestsWithin most_depth before
@@ -43,7 +43,7 @@ nothing_deep [] l e h =
     absurd (omega (arith, d, z))
 nothing_deep (x ∷ b) l e h = never (sym (ap is_none e))
 
-led_start : Led [] start
+pub led_start : Led [] start
 led_start = record {
   good = λ a x r m e c. ap (λ w. module_on true 0 w (plain_sign 0 (of_kind End) ∷ [])) (sym c.0)
       ∙ ap (module_on true 0 a) (sym c.1) ∙ e;
@@ -103,22 +103,25 @@ refused before t s l e b =
     let x = stepped before t s l.tracks b.written b.stands b.fits in
     never (ap is_there (sym e ∙ x.went.is))
 
+pub first_fault : (before : List Token) (t : Token) (later : List Token) (s : State) → Led before s
+    → step body t s ≡ None → FirstSyntaxFault (before ++ t ∷ later) t.place
+first_fault before t later s l e = record {
+  fault = record {
+    before = before;
+    token = t;
+    first = record {
+      cut = record { later = later; cut = refl };
+      begins = l.begins;
+      ends = refused before t s l e;
+    };
+    place = refl;
+  };
+  within = l.within;
+}
+
 syntax_fault : (before : List Token) (t : Token) (later : List Token) (s : State) → Led before s
-    → step body t s ≡ None → Answer (before ++ t ∷ later)
-syntax_fault before t later s l e =
-    has_syntax_fault t.place (record {
-      fault = record {
-        before = before;
-        token = t;
-        first = record {
-          cut = record { later = later; cut = refl };
-          begins = l.begins;
-          ends = refused before t s l e;
-        };
-        place = refl;
-      };
-      within = l.within;
-    })
+    → step body t s ≡ None → TextAnswer (before ++ t ∷ later)
+syntax_fault before t later s l e = has_syntax_fault t.place (first_fault before t later s l e)
 
 reached_begins : (before : List Token) (t : Token) (d : ℕ) → Reached before t d → BeginsModule (before ++ t ∷ [])
 reached_begins before t d r = record {
@@ -138,7 +141,7 @@ deeper_everywhere before t s u d l e h m i f =
     omega (arith, a, b, c, h)
 
 nesting_fault : (before : List Token) (t : Token) (later : List Token) (s u : State) (d : ℕ) → Led before s
-    → step body t s ≡ Some (u, d) → Reached before t d → most_depth < d → Answer (before ++ t ∷ later)
+    → step body t s ≡ Some (u, d) → Reached before t d → most_depth < d → TextAnswer (before ++ t ∷ later)
 nesting_fault before t later s u d l e r h =
     has_nesting_fault t.place (record {
       before = before;
@@ -152,7 +155,7 @@ nesting_fault before t later s u d l e r h =
       place = refl;
     })
 
-led_on : (before : List Token) (t : Token) (s u : State) (d : ℕ) → Led before s → step body t s ≡ Some (u, d)
+pub led_on : (before : List Token) (t : Token) (s u : State) (d : ℕ) → Led before s → step body t s ≡ Some (u, d)
     → Sound before t u d → d ≤ most_depth → Led (before ++ t ∷ []) u
 led_on before t s u d l e o h = record {
   good = o.good;
@@ -162,7 +165,7 @@ led_on before t s u d l e o h = record {
 }
 
 -- where the last token ends a text
-text_at : (before : List Token) (u : State) → Led before u → IsFinished u → Answer before
+text_at : (before : List Token) (u : State) → Led before u → IsFinished u → TextAnswer before
 text_at before (state P st) l f = absurd f
 text_at before (finished w) l f =
     is_text (module_of w) (record {
@@ -173,32 +176,33 @@ text_at before (finished w) l f =
     }) l.within
 
 at_last : (before : List Token) (t : Token) (s u : State) (d : ℕ) → Led before s → step body t s ≡ Some (u, d)
-    → Sound before t u d → is_last t.kind ≡ true → (b : Bool) → leb d most_depth ≡ b → Answer (before ++ t ∷ [])
+    → Sound before t u d → is_last t.kind ≡ true → (b : Bool) → leb d most_depth ≡ b → TextAnswer (before ++ t ∷ [])
 at_last before t s u d l e o c true h =
     text_at (before ++ t ∷ []) u (led_on before t s u d l e o (leb-true d most_depth h)) (o.last c)
 at_last before t s u d l e o c false h = nesting_fault before t [] s u d l e o.reached (leb-false d most_depth h)
 
 last_answer : (before : List Token) (t : Token) (s : State) → Led before s → is_last t.kind ≡ true → (o : Result)
-    → step body t s ≡ o → Held (Sound before t) o → Answer (before ++ t ∷ [])
+    → step body t s ≡ o → Held (Sound before t) o → TextAnswer (before ++ t ∷ [])
 last_answer before t s l c None e h = syntax_fault before t [] s l e
 last_answer before t s l c (Some x) e h = at_last before t s x.0 x.1 l e h c (leb x.1 most_depth) refl
 
 further : (before : List Token) (t : Token) (later : List Token) (s u : State) (d : ℕ) → Led before s
     → step body t s ≡ Some (u, d) → Sound before t u d
-    → ((u : State) → Led (before ++ t ∷ []) u → Answer ((before ++ t ∷ []) ++ later)) → (b : Bool)
-    → leb d most_depth ≡ b → Answer (before ++ t ∷ later)
+    → ((u : State) → Led (before ++ t ∷ []) u → TextAnswer ((before ++ t ∷ []) ++ later)) → (b : Bool)
+    → leb d most_depth ≡ b → TextAnswer (before ++ t ∷ later)
 further before t later s u d l e o f true h =
-    subst Answer (assoc before (t ∷ []) later) (f u (led_on before t s u d l e o (leb-true d most_depth h)))
-further before t later s u d l e o f false h = nesting_fault before t later s u d l e o.reached (leb-false d most_depth h)
+    subst TextAnswer (assoc before (t ∷ []) later) (f u (led_on before t s u d l e o (leb-true d most_depth h)))
+further before t later s u d l e o f false h = nesting_fault before t later s u d l e o.reached
+    (leb-false d most_depth h)
 
 next_answer : (before : List Token) (t : Token) (later : List Token) (s : State) → Led before s
-    → ((u : State) → Led (before ++ t ∷ []) u → Answer ((before ++ t ∷ []) ++ later)) → (o : Result)
-    → step body t s ≡ o → Held (Sound before t) o → Answer (before ++ t ∷ later)
+    → ((u : State) → Led (before ++ t ∷ []) u → TextAnswer ((before ++ t ∷ []) ++ later)) → (o : Result)
+    → step body t s ≡ o → Held (Sound before t) o → TextAnswer (before ++ t ∷ later)
 next_answer before t later s l f None e h = syntax_fault before t later s l e
 next_answer before t later s l f (Some x) e h =
     further before t later s x.0 x.1 l e h f (leb x.1 most_depth) refl
 
-answer_from : (later before : List Token) (s : State) → Led before s → IsClosed later → Answer (before ++ later)
+answer_from : (later before : List Token) (s : State) → Led before s → IsClosed later → TextAnswer (before ++ later)
 answer_from [] before s l c = absurd c
 answer_from (t ∷ []) before s l c =
     last_answer before t s l c (step body t s) refl (sound_step body before t s l.good)
@@ -206,5 +210,5 @@ answer_from (t ∷ u ∷ us) before s l c =
     next_answer before t (u ∷ us) s l (λ v k. answer_from (u ∷ us) (before ++ t ∷ []) v k c.1) (step body t s) refl
     (sound_step body before t s l.good)
 
-pub answer_of : (ts : List Token) → IsClosed ts → Answer ts
+pub answer_of : (ts : List Token) → IsClosed ts → TextAnswer ts
 answer_of ts c = answer_from ts [] start led_start c

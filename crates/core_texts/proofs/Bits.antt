@@ -52,7 +52,8 @@ or_right false b h = h
 
 small : (n u : ℕ) → is_constant_size n u ≡ true → leb n 256 ≡ true
 small n u h =
-    le-leb n 256 (factor n u (leb-true 1 u (and_left (leb 1 u) (leb u 256) (and_left (leb 1 u && leb u 256) (leb (n * u) 256) h)))
+    le-leb n 256 (factor n u (leb-true 1 u (and_left (leb 1 u) (leb u 256) (and_left (leb 1 u && leb u 256) (leb
+    (n * u) 256) h)))
     (leb-true (n * u) 256 (and_right (leb 1 u && leb u 256) (leb (n * u) 256) h)))
 
 pub parted : (b : Bool) (v : Option ℤ) (n u : Option ℕ) (f : Option Term)

@@ -144,7 +144,8 @@ known_kind : (n : ℕ) (t : Token) (k : TokenKind) (e : t.kind ≡ k) → k ≡ 
     → is_arity n ≡ true → Known t n (arity_from t k e)
 known_kind n t (Number false (pos m)) e i l h =
     known_where n t (leb t.to (t.from + 9) && is_arity m) (λ x. arity_bytes m t e x)
-    (and_in _ _ (le-leb t.to (t.from + 9) l) (ap is_arity (ap count_in i) ∙ h)) (λ x. number_kept m t e x ∙ ap count_in i)
+    (and_in _ _ (le-leb t.to (t.from + 9) l) (ap is_arity (ap count_in i) ∙ h))
+    (λ x. number_kept m t e x ∙ ap count_in i)
 known_kind n t k e i l h = never (ap is_count i)
 
 arity_known : (n : ℕ) (t : Token) → IsArityToken n t → is_arity n ≡ true → Known t n (arity_of t)
@@ -175,7 +176,8 @@ le_same : (n m : ℕ) → n ≡ m → n ≤ m
 le_same n m e = omega (arith, e)
 
 module _ (body : (v : Part) → Plan v (λ r. r))
-    (alongs : (v : Part) (b : Value v) → Right v b → (r : List Sign) → Follows v r → Along (body v) b (signs_of v b r) r)
+    (alongs : (v : Part) (b : Value v) → Right v b → (r : List Sign) → Follows v r → Along (body v) b
+    (signs_of v b r) r)
     (t : Token) (g : Sign) (gs : List Sign) (m : Written) (fits : Fits g.sight t) (clear : g.marked ≡ false) where
   complete_plan : (D : Type 0) (R : Part → Type 0) (go : (v : Part) → Stack v → Result)
       (en : (v : Part) → R v → (st : Stack v) (b : Value v) (r : List Sign) → Along (body v) b (g ∷ gs) r

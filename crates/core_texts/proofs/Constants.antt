@@ -109,7 +109,11 @@ size_symbol d p _ h = never h
 
 abbrev pub size_behind : (d : ℕ) (p : Place) (x : TokenKind) → takes_size x ≡ true → BehindOf (size_part d) d p x
 size_behind d p (Number g (pos n)) h =
-    done (number p g (pos n)) ((refl, and_left (is_within_128 (pos n)) (leb n 256) h), and_right (is_within_128 (pos n)) (leb n 256) h)
+    done (number p g (pos n)) (
+      (refl, and_left (is_within_128 (pos n)) (leb n 256) h),
+      and_right (is_within_128
+          (pos n)) (leb n 256) h,
+    )
     (λ r. refl)
 size_behind d p (Character c) h =
     done (character p c) ((refl, and_left (is_code c) (leb c 256) h), and_right (is_code c) (leb c 256) h) (λ r. refl)
@@ -143,11 +147,18 @@ unit_symbol m d p _ h = never h
 
 abbrev pub unit_behind : (m d : ℕ) (p : Place) (x : TokenKind) → takes_unit m x ≡ true → BehindOf (unit_part m d) d p x
 unit_behind m d p (Number g (pos n)) h =
-    done (number p g (pos n))
-    ((refl, and_left (is_within_128 (pos n)) (is_unit m (Some n)) h), and_right (is_within_128 (pos n)) (is_unit m (Some n)) h)
+    done (number p g (pos n)) (
+      (refl, and_left (is_within_128 (pos n)) (is_unit m (Some n)) h),
+      and_right (is_within_128 (pos n)) (is_unit m
+          (Some n)) h,
+    )
     (λ r. refl)
 unit_behind m d p (Character c) h =
-    done (character p c) ((refl, and_left (is_code c) (is_unit m (Some c)) h), and_right (is_code c) (is_unit m (Some c)) h)
+    done (character p c) (
+      (refl, and_left (is_code c) (is_unit m (Some c)) h),
+      and_right (is_code c) (is_unit m
+          (Some c)) h,
+    )
     (λ r. refl)
 unit_behind m d p (Symbol x) h = unit_symbol m d p x h
 unit_behind m d p _ h = never h

@@ -19,8 +19,11 @@ mod Constants
 mod Bodies
 mod Quick
 mod Ways
+mod TreeWays
+mod ClauseWays
 mod ConstantWays
 mod PartWays
 mod Tracks
 mod OneTree
 mod Answering
+mod Computed

@@ -1,4 +1,4 @@
--- The parts of a text: what each is read as, its signs, what is right for it, what may stand behind it, and a least one.
+-- The parts of a text: what each is read as, its signs, what is right for it, what may stand behind it, a least one.
 use Rattle.std.proofs.Common.{◌≡◌, ℕ, suc, leb, List, [], ◌∷◌, Bool, true, false, ◌&&◌, ◌||◌, not, pos, Option, None, Some, codes}
 use Rattle.std.specs.Bool.{⊤}
 use Rattle.erl_base.specs.declared.ids.Place.{Place}

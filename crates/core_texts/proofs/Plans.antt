@@ -1,5 +1,5 @@
--- Plans: how a part is read, token by token. A plan for a part stands at what of it was read: with this before them, the
--- signs that are left make those of the part.
+-- Plans: how a part is read, token by token. A plan for a part stands at what of it was read: with this before them,
+-- the signs that are left make those of the part.
 use Rattle.std.proofs.Common.{◌≡◌, ◌≤◌, ℕ, List, ◌∷◌, Bool, true, false, not}
 use Rattle.erl_base.specs.declared.ids.Place.{Place}
 use Rattle.core_lex.specs.declared.token.Token.{Token}

@@ -38,7 +38,8 @@ pub record Arity (t : Token) : Type 0 where
   pub right : is_arity number ≡ true
   pub token : IsArityToken number t
 
-unfoldable pub arity_bytes : (n : ℕ) (t : Token) → t.kind ≡ Number false (pos n) → (leb t.to (t.from + 9) && is_arity n) ≡ true
+unfoldable pub arity_bytes : (n : ℕ) (t : Token) → t.kind ≡ Number false (pos n) → (leb t.to
+    (t.from + 9) && is_arity n) ≡ true
     → Arity t
 arity_bytes n t e h = record {
   number = n;

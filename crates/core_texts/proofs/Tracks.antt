@@ -32,7 +32,12 @@ pub tracked_start : Tracked [] start
 tracked_start m h f = record {
   rest = signs m;
   over = refl;
-  goes = (m, plain_sign 0 (of_kind End) ∷ [], part_way (module_part 0) m h (plain_sign 0 (of_kind End) ∷ []) tt, (refl, refl));
+  goes = (
+    m,
+    plain_sign 0 (of_kind End) ∷ [],
+    part_way (module_part 0) m h (plain_sign 0 (of_kind End) ∷ []) tt,
+    (refl, refl),
+  );
 }
 
 -- one token more of a module

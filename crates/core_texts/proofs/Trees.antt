@@ -119,7 +119,11 @@ variable_plan pattern d p x h =
     done (alias (variable p x) t) (refl, (refl, h), i) (λ r. as_variable (variable p x) (refl, h) d _)))
     (done (variable p x) (refl, h) (λ r. refl))
 variable_plan s d p x h =
-    done (variable p x) (and_left (takes_variable s) (is_variable_name x) h, and_right (takes_variable s) (is_variable_name x) h)
+    done (variable p x) (
+      and_left (takes_variable s) (is_variable_name x) h,
+      and_right (takes_variable s)
+          (is_variable_name x) h,
+    )
     (λ r. refl)
 
 abbrev pub atom_tree_plan : (s : Sort) (d : ℕ) (p : Place) (a : Name) → takes_tree s (Atom a) ≡ true
@@ -170,7 +174,8 @@ noted_plan a_fun d p h = other_noted a_fun d p refl
 noted_plan key d p h = never h
 
 abbrev pub list_end : (s : Sort) (d : ℕ) (p : Place) → takes_list s ≡ true → (ts : Row) → RowStands (item_sort s) ts
-    → Plan (tree_part s d) (λ r. token_at (suc d) p (Symbol S.OpenBracket) (row_on true true (item_sort s) (suc d) ts r))
+    → Plan (tree_part s d) (λ r. token_at (suc d) p (Symbol S.OpenBracket) (row_on true true (item_sort s)
+    (suc d) ts r))
 list_end s d p h none i = symbol_next true (suc d) S.CloseBracket (done (list p none) (h, tt) (λ r. refl))
 list_end s d p h (more t ts) i =
     if_next is_bar
@@ -287,14 +292,23 @@ abbrev pub tree_behind : (s : Sort) (d : ℕ) (p : Place) (x : TokenKind) → ta
 tree_behind s d p (Variable x) h = variable_plan s d p x h
 tree_behind s d p (Atom a) h = atom_tree_plan s d p a h
 tree_behind s d p (Number g z) h =
-    done (number p g z) (and_left (takes_integer s) (is_within_128 z) h, and_right (takes_integer s) (is_within_128 z) h)
+    done (number p g z) (
+      and_left (takes_integer s) (is_within_128 z) h,
+      and_right (takes_integer s)
+          (is_within_128 z) h,
+    )
     (λ r. refl)
 tree_behind s d p (Wide n) h = done (wide p n) h (λ r. refl)
 tree_behind s d p Float h = done (float p) h (λ r. refl)
 tree_behind s d p (Character c) h =
-    done (character p c) (and_left (takes_constant s) (is_code c) h, and_right (takes_constant s) (is_code c) h) (λ r. refl)
+    done (character p c) (and_left (takes_constant s) (is_code c) h, and_right (takes_constant s) (is_code c) h)
+    (λ r. refl)
 tree_behind s d p (Letters cs) h =
-    done (string p cs) (and_left (takes_list s) (list_all is_code cs) h, and_right (takes_list s) (list_all is_code cs) h)
+    done (string p cs) (
+      and_left (takes_list s) (list_all is_code cs) h,
+      and_right (takes_list s)
+          (list_all is_code cs) h,
+    )
     (λ r. refl)
 tree_behind s d p (Symbol x) h = symbol_plan s d p x h
 tree_behind s d p (Word x) h = word_plan s d p x h

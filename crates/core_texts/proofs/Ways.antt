@@ -1,23 +1,23 @@
--- What is written is read along its plan: trees.
-use Rattle.std.proofs.Common.{◌≡◌, refl, sym, ap, subst, ℕ, suc, ◌+◌, List, [], ◌∷◌, Bool, true, false, ◌&&◌, ◌||◌, IsTrue, Option, None, Some}
+-- What is written is read along its plan: the forms of trees.
+use Rattle.std.proofs.Common.{◌≡◌, refl, sym, subst, ℕ, suc, ◌+◌, List, [], ◌∷◌, Bool, true, false, ◌&&◌, ◌||◌, IsTrue, Option, None, Some}
 use Rattle.erl_base.specs.Names.{Name}
 use Rattle.erl_base.specs.declared.ids.Place.{Place}
 use Rattle.core_lex.specs.declared.token.TokenKind.{TokenKind}
-use Rattle.core_lex.specs.declared.token.TokenKind.TheVariants.{Word, Symbol, Variable, Atom, Number, Wide, Float, Character, Letters}
+use Rattle.core_lex.specs.declared.token.TokenKind.TheVariants.{Word, Symbol, Variable, Atom}
 use Rattle.core_lex.specs.declared.token.Word.TheVariants as W
 use Rattle.core_lex.specs.declared.token.Symbol.TheVariants as S
 use Rattle.core_form.specs.SourceTree.{is_arity}
-use Rattle.core_grammar.specs.WrittenTree.{Spelled, Tree, variable, atom, number, wide, float, character, string, function_name, external, noted, alias, list, list_on, tuple, values, new_map, map_on, binary, fun, let_in, letrec, case, apply, call as call_of, primop, do_then, catch, try, receive, Group, Clause, Row, none, more, Pairs, no_pair, pair, Segments, no_segment, and_segment, no_clause, and_clause, no_definition, definition}
-use Rattle.core_grammar.specs.Standing.{Sort, expression, pattern, constant, note, key, segment_value, a_variable, a_name, an_atom, a_fun, takes_constant, takes_atom, takes_name, takes_fun, takes_expression, takes_alias, takes_binary, inner_sort, item_sort, key_sort, Stands, RowStands, PairsStand}
-use Rattle.core_grammar.specs.Signs.{Sign, key_weight, symbol, catch_arrow, group_count, on, clause_on}
-use Rattle.core_texts.proofs.Fronts.{opens, is_paren, is_when, equals_in, front}
-use Rattle.core_texts.proofs.Truths.{never, and_in}
-use Rattle.core_texts.proofs.Opens.{no_front, opens_tree, opens_segment, opens_clause, opened}
+use Rattle.core_grammar.specs.WrittenTree.{Spelled, Tree, variable, atom, function_name, external, noted, alias, new_map, map_on, fun, Group, Clause, Row, none, more, Pairs, Segments, no_segment, and_segment}
+use Rattle.core_grammar.specs.Standing.{Sort, expression, pattern, constant, note, key, segment_value, a_variable, a_name, an_atom, a_fun, takes_constant, takes_atom, takes_name, takes_fun, takes_expression, takes_binary, inner_sort, Stands, RowStands, PairsStand}
+use Rattle.core_grammar.specs.Signs.{Sign, spelled, arity, row_on, symbol, catch_arrow, group_count, on, clause_on}
+use Rattle.core_texts.proofs.Fronts.{opens, is_when, equals_in, front}
+use Rattle.core_texts.proofs.Truths.{never}
+use Rattle.core_texts.proofs.Opens.{no_front, opens_tree, opens_clause, opened}
 use Rattle.core_texts.proofs.Bits.{all_of_bits}
 use Rattle.core_texts.proofs.Parts.{tree_part, Follows, clause_part, group_part, there, is_strict, all_bits}
 use Rattle.core_texts.proofs.Plans.{look}
 use Rattle.core_texts.proofs.Annotated.{is_key, noted_weight, as_variable, is_variable_like, variable_stands, variable_like}
-use Rattle.core_texts.proofs.Trees.{takes_tree, tree_looked, tree_behind, alias_end, other_noted, variable_plan, map_end, noted_key_plan, key_plan, tree_plan}
+use Rattle.core_texts.proofs.Trees.{external_plan, local_plan, takes_tree, tree_looked, tree_behind, alias_end, other_noted, variable_plan, map_end}
 use Rattle.core_texts.proofs.Complete.{Along, first_way, second_way}
 
 or_left : (a b : Bool) → a ≡ true → (a || b) ≡ true
@@ -29,19 +29,19 @@ or_right true b h = refl
 or_right false b h = h
 
 -- as an expression follows
-plain : (s : Sort) (d e : ℕ) (r : List Sign) → Follows (tree_part s d) r → Follows (tree_part expression e) r
+pub plain : (s : Sort) (d e : ℕ) (r : List Sign) → Follows (tree_part s d) r → Follows (tree_part expression e) r
 plain s d e r c = (c.0, (no_front r, tt))
 
 -- a token of a tree and what is behind it
-abbrev TreeWay : Sort → ℕ → Tree → List Sign → Type 0
+abbrev pub TreeWay : Sort → ℕ → Tree → List Sign → Type 0
 TreeWay s d t r = Along {k = λ x. x} (look (tree_looked s d) (tree_behind s d)) t (on true s d t r) r
 
-variable_way : (s : Sort) (d : ℕ) (p : Place) (x : Name) (r : List Sign) → Follows (tree_part s d) r
+pub variable_way : (s : Sort) (d : ℕ) (p : Place) (x : Name) (r : List Sign) → Follows (tree_part s d) r
     → (h : takes_tree s (Variable x) ≡ true) → Along (variable_plan s d p x h) (variable p x) r r
 variable_way pattern d p x r c h = second_way (c.1.0, (refl, refl))
 variable_way _ d p x r c h = (refl, refl)
 
-atom_way : (s : Sort) (d : ℕ) (p : Place) (a : Name) (r : List Sign) → IsTrue (takes_atom s)
+pub atom_way : (s : Sort) (d : ℕ) (p : Place) (a : Name) (r : List Sign) → IsTrue (takes_atom s)
     → Follows (tree_part s d) r → TreeWay s d (atom p a) r
 atom_way expression d p a r h c = (p, Atom a, refl, r, refl, λ i. second_way (c.0, (refl, refl)))
 atom_way pattern d p a r h c = (p, Atom a, refl, r, refl, λ i. (refl, refl))
@@ -50,209 +50,68 @@ atom_way key d p a r h c = (p, Atom a, refl, r, refl, λ i. (refl, refl))
 atom_way an_atom d p a r h c = (p, Atom a, refl, r, refl, λ i. (refl, refl))
 atom_way _ d p a r h c = never h
 
-name_way : (s : Sort) (d : ℕ) (p : Place) (a : Name) (n : ℕ) (r : List Sign) → IsTrue (takes_name s)
+pub name_way : (s : Sort) (d : ℕ) (p : Place) (a : Name) (n : ℕ) (r : List Sign) → IsTrue (takes_name s)
     → is_arity n ≡ true → TreeWay s d (function_name p a n) r
 name_way expression d p a n r h k =
     (p, Atom a, refl, _, refl, λ i. first_way (refl, (_, refl, (n, k, r, refl, λ j. (refl, refl)))))
 name_way a_name d p a n r h k = (p, Atom a, refl, _, refl, λ i. (_, refl, (n, k, r, refl, λ j. (refl, refl))))
 name_way _ d p a n r h k = never h
 
-external_way : (s : Sort) (d : ℕ) (p : Place) (m f : Spelled) (n : ℕ) (r : List Sign) → IsTrue (takes_constant s)
+external_rest : (s : Sort) (d : ℕ) (p : Place) (h : takes_constant s ≡ true) (m f : Spelled) (n : ℕ) (r : List Sign)
+    → is_arity n ≡ true → Along (external_plan s d p h) (external p m f n)
+    (spelled (suc d) m (symbol (suc d) S.Colon (spelled (suc d) f (arity (suc d) n r)))) r
+external_rest s d p h m f n r k = (
+  m.place,
+  Atom m.name,
+  refl,
+  _,
+  refl,
+  λ a. (
+    _,
+    refl,
+    (f.place, Atom f.name, refl, _, refl, λ b. (_, refl, (n, k, r, refl, λ j. (refl, refl)))),
+  ),
+)
+
+pub external_way : (s : Sort) (d : ℕ) (p : Place) (m f : Spelled) (n : ℕ) (r : List Sign) → IsTrue (takes_constant s)
     → is_arity n ≡ true → TreeWay s d (external p m f n) r
-external_way expression d p m f n r h k = (
-  p,
-  Word W.Fun,
-  refl,
-  _,
-  refl,
-  λ i. second_way (
-    refl,
-    (
-      m.place,
-      Atom m.name,
-      refl,
-      _,
-      refl,
-      λ a. (
-        _,
-        refl,
-        (
-          f.place,
-          Atom f.name,
-          refl,
-          _,
-          refl,
-          λ b. (
-            _,
-            refl,
-            (n, k, r, refl, λ j. (refl, refl)),
-          ),
-        ),
-      ),
-    ),
-  ),
-)
-external_way pattern d p m f n r h k = (
-  p,
-  Word W.Fun,
-  refl,
-  _,
-  refl,
-  λ i. (
-    m.place,
-    Atom m.name,
-    refl,
-    _,
-    refl,
-    λ a. (
-      _,
-      refl,
-      (
-        f.place,
-        Atom f.name,
-        refl,
-        _,
-        refl,
-        λ b. (
-          _,
-          refl,
-          (n, k, r, refl, λ j. (refl, refl)),
-        ),
-      ),
-    ),
-  ),
-)
-external_way constant d p m f n r h k = (
-  p,
-  Word W.Fun,
-  refl,
-  _,
-  refl,
-  λ i. (
-    m.place,
-    Atom m.name,
-    refl,
-    _,
-    refl,
-    λ a. (
-      _,
-      refl,
-      (
-        f.place,
-        Atom f.name,
-        refl,
-        _,
-        refl,
-        λ b. (
-          _,
-          refl,
-          (n, k, r, refl, λ j. (refl, refl)),
-        ),
-      ),
-    ),
-  ),
-)
-external_way key d p m f n r h k = (
-  p,
-  Word W.Fun,
-  refl,
-  _,
-  refl,
-  λ i. (
-    m.place,
-    Atom m.name,
-    refl,
-    _,
-    refl,
-    λ a. (
-      _,
-      refl,
-      (
-        f.place,
-        Atom f.name,
-        refl,
-        _,
-        refl,
-        λ b. (
-          _,
-          refl,
-          (n, k, r, refl, λ j. (refl, refl)),
-        ),
-      ),
-    ),
-  ),
-)
+external_way expression d p m f n r h k =
+    (p, Word W.Fun, refl, _, refl, λ i. second_way (refl, external_rest expression d p refl m f n r k))
+external_way pattern d p m f n r h k =
+    (p, Word W.Fun, refl, _, refl, λ i. external_rest pattern d p refl m f n r k)
+external_way constant d p m f n r h k =
+    (p, Word W.Fun, refl, _, refl, λ i. external_rest constant d p refl m f n r k)
+external_way key d p m f n r h k = (p, Word W.Fun, refl, _, refl, λ i. external_rest key d p refl m f n r k)
 external_way _ d p m f n r h k = never h
 
-fun_way : (s : Sort) (d : ℕ) (p : Place) (xs : Row) (t : Tree) (r : List Sign) → IsTrue (takes_fun s)
-    → RowStands a_variable xs → Stands expression t → Follows (tree_part s d) r → TreeWay s d (fun p xs t) r
-fun_way expression d p none t r h j i c =
-    (p, Word W.Fun, refl, _, refl, λ z. first_way (refl, (_, refl, second_way (refl, (_, refl, (_, refl, (t, i, r, refl, (plain expression d (suc d) r c), λ x. (refl, refl))))))))
-fun_way expression d p (more x xs) t r h j i c = (
-  p,
-  Word W.Fun,
-  refl,
+local_rest : (s : Sort) (d : ℕ) (p : Place) (h : takes_fun s ≡ true) (xs : Row) (t : Tree) (r : List Sign)
+    → RowStands a_variable xs → Stands expression t → Follows (tree_part s d) r
+    → Along (local_plan s d p h) (fun p xs t) (symbol (suc d) S.OpenParen (row_on true true a_variable (suc d) xs
+    (symbol (suc d) S.CloseParen (symbol (suc d) S.Arrow (on true expression (suc d) t r))))) r
+local_rest s d p h none t r j i c =
+    (_, refl, second_way (refl, (_, refl, (_, refl, (t, i, r, refl, plain s d (suc d) r c, λ x. (refl, refl))))))
+local_rest s d p h (more x xs) t r j i c = (
   _,
   refl,
-  λ z. first_way (
-    refl,
+  first_way (
+    opens_tree a_variable (suc d) x _,
     (
+      (x, xs),
+      j,
       _,
       refl,
-      first_way (
-        opens_tree a_variable (suc d) x _,
-        (
-          (x, xs),
-          j,
-          _,
-          refl,
-          (refl, (refl, (refl, tt))),
-          λ y. (
-            _,
-            refl,
-            (
-              _,
-              refl,
-              (t, i, r, refl, (plain expression d (suc d) r c), λ x. (refl, refl)),
-            ),
-          ),
-        ),
-      ),
+      (refl, (refl, (refl, tt))),
+      λ y.
+          (_, refl, (_, refl, (t, i, r, refl, plain s d (suc d) r c, λ z. (refl, refl)))),
     ),
   ),
 )
-fun_way a_fun d p none t r h j i c =
-    (p, Word W.Fun, refl, _, refl, λ z. (_, refl, second_way (refl, (_, refl, (_, refl, (t, i, r, refl, (plain a_fun d (suc d) r c), λ x. (refl, refl)))))))
-fun_way a_fun d p (more x xs) t r h j i c = (
-  p,
-  Word W.Fun,
-  refl,
-  _,
-  refl,
-  λ z. (
-    _,
-    refl,
-    first_way (
-      opens_tree a_variable (suc d) x _,
-      (
-        (x, xs),
-        j,
-        _,
-        refl,
-        (refl, (refl, (refl, tt))),
-        λ y. (
-          _,
-          refl,
-          (
-            _,
-            refl,
-            (t, i, r, refl, (plain a_fun d (suc d) r c), λ x. (refl, refl)),
-          ),
-        ),
-      ),
-    ),
-  ),
-)
+
+pub fun_way : (s : Sort) (d : ℕ) (p : Place) (xs : Row) (t : Tree) (r : List Sign) → IsTrue (takes_fun s)
+    → RowStands a_variable xs → Stands expression t → Follows (tree_part s d) r → TreeWay s d (fun p xs t) r
+fun_way expression d p xs t r h j i c =
+    (p, Word W.Fun, refl, _, refl, λ z. first_way (refl, local_rest expression d p refl xs t r j i c))
+fun_way a_fun d p xs t r h j i c = (p, Word W.Fun, refl, _, refl, λ z. local_rest a_fun d p refl xs t r j i c)
 fun_way pattern d p xs t r h j i c = never h
 fun_way constant d p xs t r h j i c = never h
 fun_way note d p xs t r h j i c = never h
@@ -265,13 +124,15 @@ fun_way an_atom d p xs t r h j i c = never h
 -- Annotations.
 
 alias_none : (d : ℕ) (p : Place) (t n : Tree) (i : Stands pattern t) (j : Stands note n) (r : List Sign) (b : Bool)
-    (e : is_variable_like t ≡ b) → front (equals_in true) r ≡ false → Along (alias_end d p t n i j b e) (noted p t n) r r
+    (e : is_variable_like t ≡ b) → front (equals_in true) r ≡ false → Along (alias_end d p t n i j b e)
+    (noted p t n) r r
 alias_none d p t n i j r true e c = second_way (c, (refl, refl))
 alias_none d p t n i j r false e c = (refl, refl)
 
 alias_some : (d : ℕ) (p : Place) (t n u : Tree) (i : Stands pattern t) (j : Stands note n) (r : List Sign) (b : Bool)
     (e : is_variable_like t ≡ b) → b ≡ true → Stands pattern u → Follows (tree_part pattern (suc d)) r
-    → Along (alias_end d p t n i j b e) (alias (noted p t n) u) (symbol (suc d) S.Equals (on true pattern (suc d) u r)) r
+    → Along (alias_end d p t n i j b e) (alias (noted p t n) u) (symbol (suc d) S.Equals (on true pattern
+    (suc d) u r)) r
 alias_some d p t n u i j r true e h k c = first_way (refl, (_, refl, (u, k, r, refl, c, λ x. (refl, refl))))
 alias_some d p t n u i j r false e h k c = never h
 
@@ -279,10 +140,34 @@ other_way : (s : Sort) (d : ℕ) (p : Place) (t n : Tree) (r : List Sign) (e : i
     → Stands note n → Along (other_noted s d p e) (noted p t n) (on true (inner_sort s) (suc d) t
     (symbol (suc (noted_weight s p + d)) S.AnnotationBar (on true note (suc (noted_weight s p + d)) n
     (symbol (suc (noted_weight s p + d)) S.CloseParen r)))) r
-other_way s d p t n r e h k =
-    (t, h, _, refl, (refl, (refl, tt)), λ i. (_, refl, (n, k, _, refl, (refl, (refl, tt)), λ j. (r, refl, (refl, refl)))))
+other_way s d p t n r e h k = (
+  t,
+  h,
+  _,
+  refl,
+  (refl, (refl, tt)),
+  λ i. (
+    _,
+    refl,
+    (
+      n,
+      k,
+      _,
+      refl,
+      (refl, (refl, tt)),
+      λ j. (
+        r,
+        refl,
+        (
+          refl,
+          refl,
+        ),
+      ),
+    ),
+  ),
+)
 
-noted_way : (s : Sort) (d : ℕ) (p : Place) (t n : Tree) (r : List Sign) → is_key s ≡ false → Stands (inner_sort s) t
+pub noted_way : (s : Sort) (d : ℕ) (p : Place) (t n : Tree) (r : List Sign) → is_key s ≡ false → Stands (inner_sort s) t
     → Stands note n → Follows (tree_part s d) r → TreeWay s d (noted p t n) r
 noted_way pattern d p t n r e h k c = (
   p,
@@ -321,7 +206,7 @@ noted_way a_fun d p t n r e h k c =
     (p, Symbol S.OpenParen, refl, _, refl, λ z. other_way a_fun d p t n r refl h k)
 noted_way key d p t n r e h k c = never (sym e)
 
-alias_way : (d : ℕ) (p : Place) (x n t : Tree) (r : List Sign) → Stands a_variable (noted p x n) → Stands pattern t
+pub alias_way : (d : ℕ) (p : Place) (x n t : Tree) (r : List Sign) → Stands a_variable (noted p x n) → Stands pattern t
     → Follows (tree_part pattern d) r → TreeWay pattern d (alias (noted p x n) t) r
 alias_way d p x n t r h k c = (
   p,
@@ -354,7 +239,7 @@ alias_way d p x n t r h k c = (
   ),
 )
 
-plain_alias : (d : ℕ) (p : Place) (x : Name) (t : Tree) (r : List Sign) → Stands a_variable (variable p x)
+pub plain_alias : (d : ℕ) (p : Place) (x : Name) (t : Tree) (r : List Sign) → Stands a_variable (variable p x)
     → Stands pattern t → Follows (tree_part pattern d) r → TreeWay pattern d (alias (variable p x) t) r
 plain_alias d p x t r h k c = (
   p,
@@ -368,12 +253,12 @@ plain_alias d p x t r h k c = (
 
 -- Maps.
 
-map_none : (s : Sort) (d : ℕ) (p : Place) (ps : Pairs) (h : takes_constant s ≡ true) (i : PairsStand s ps)
+pub map_none : (s : Sort) (d : ℕ) (p : Place) (ps : Pairs) (h : takes_constant s ≡ true) (i : PairsStand s ps)
     (r : List Sign) → Along (map_end s d p h ps i) (new_map p ps) (symbol (suc d) S.CloseMap r) r
 map_none expression d p ps h i r = second_way (refl, (r, refl, (refl, refl)))
 map_none _ d p ps h i r = (r, refl, (refl, refl))
 
-map_some : (s : Sort) (d : ℕ) (p : Place) (ps : Pairs) (t : Tree) (h : takes_constant s ≡ true)
+pub map_some : (s : Sort) (d : ℕ) (p : Place) (ps : Pairs) (t : Tree) (h : takes_constant s ≡ true)
     (i : PairsStand s ps) (r : List Sign) → IsTrue (takes_expression s) → Stands expression t
     → Along (map_end s d p h ps i) (map_on p ps t)
     (symbol (suc d) S.Bar (on true expression (suc d) t (symbol (suc d) S.CloseMap r))) r
@@ -389,29 +274,29 @@ all_loose : (gs : Segments) → all_bits false gs ≡ true
 all_loose no_segment = refl
 all_loose (and_segment g gs) = all_loose gs
 
-strict_bits : (s : Sort) (gs : Segments) → IsTrue (takes_binary s gs) → all_bits (is_strict s) gs ≡ true
+pub strict_bits : (s : Sort) (gs : Segments) → IsTrue (takes_binary s gs) → all_bits (is_strict s) gs ≡ true
 strict_bits expression gs h = all_loose gs
 strict_bits pattern gs h = all_loose gs
 strict_bits constant gs h = all_of_bits gs (some_there _ h)
 strict_bits key gs h = all_of_bits gs (some_there _ h)
 strict_bits _ gs h = never h
 
-binary_taken : (s : Sort) (gs : Segments) → IsTrue (takes_binary s gs) → takes_constant s ≡ true
+pub binary_taken : (s : Sort) (gs : Segments) → IsTrue (takes_binary s gs) → takes_constant s ≡ true
 binary_taken expression gs h = refl
 binary_taken pattern gs h = refl
 binary_taken constant gs h = refl
 binary_taken key gs h = refl
 binary_taken _ gs h = never h
 
-expression_constant : (s : Sort) → IsTrue (takes_expression s) → takes_constant s ≡ true
+pub expression_constant : (s : Sort) → IsTrue (takes_expression s) → takes_constant s ≡ true
 expression_constant expression h = refl
 expression_constant _ h = never h
 
-not_both : (a : Bool) → (a && true) ≡ false → a ≡ false
+pub not_both : (a : Bool) → (a && true) ≡ false → a ≡ false
 not_both true h = h
 not_both false h = h
 
-by_pattern : (s : Sort) (d : ℕ) (t : Tree) (r : List Sign) → s ≡ pattern → Follows (tree_part s d) r
+pub by_pattern : (s : Sort) (d : ℕ) (t : Tree) (r : List Sign) → s ≡ pattern → Follows (tree_part s d) r
     → (Follows (tree_part pattern d) r → TreeWay pattern d t r) → TreeWay s d t r
 by_pattern s d t r e c f =
     subst (λ x. Follows (tree_part x d) r → TreeWay x d t r) (sym e) f c
@@ -431,405 +316,9 @@ clause_calm d q r =
     let c = opened true _ (opens_clause d q r) in
     (c.slash, (c.equals, (opened_free is_when open_when _ (opens_clause d q r), tt)))
 
-tree_calm : (d : ℕ) (t : Tree) (r : List Sign) → Follows (tree_part expression d) (on true expression d t r)
+pub tree_calm : (d : ℕ) (t : Tree) (r : List Sign) → Follows (tree_part expression d) (on true expression d t r)
 tree_calm d t r = let c = opened false _ (opens_tree expression d t r) in (c.slash, (c.equals, tt))
 
-group_calm : (d : ℕ) (ys : Group) (r : List Sign)
+pub group_calm : (d : ℕ) (ys : Group) (r : List Sign)
     → Follows (group_part d) (catch_arrow d (group_count ys) r)
 group_calm d ys r = (refl, (refl, tt))
-
-is_alias : (s : Sort) → IsTrue (takes_alias s) → s ≡ pattern
-is_alias pattern h = refl
-is_alias _ h = never h
-
-pub look_way : (s : Sort) (d : ℕ) (t : Tree) (r : List Sign) → Stands s t → Follows (tree_part s d) r
-    → (is_key s && front is_paren (on true s d t r)) ≡ false → TreeWay s d t r
-look_way s d (variable p x) r h c o = (p, Variable x, and_in _ _ h.0 h.1, r, refl, λ i. variable_way s d p x r c i)
-look_way s d (atom p a) r h c o = atom_way s d p a r h c
-look_way s d (number p g z) r h c o = (p, Number g z, and_in _ _ h.0 h.1, r, refl, λ i. (refl, refl))
-look_way s d (wide p n) r h c o = (p, Wide n, h, r, refl, λ i. (refl, refl))
-look_way s d (float p) r h c o = (p, Float, h, r, refl, λ i. (refl, refl))
-look_way s d (character p x) r h c o = (p, Character x, and_in _ _ h.0 h.1, r, refl, λ i. (refl, refl))
-look_way s d (string p cs) r h c o = (p, Letters cs, and_in _ _ h.0 h.1, r, refl, λ i. (refl, refl))
-look_way s d (function_name p a n) r h c o = name_way s d p a n r h.0 h.1
-look_way s d (external p m f n) r h c o = external_way s d p m f n r h.0 h.1
-look_way s d (noted p t n) r h c o = noted_way s d p t n r (not_both (is_key s) o) h.0 h.1 c
-look_way s d (alias (variable p x) t) r h c o =
-    by_pattern s d (alias (variable p x) t) r (is_alias s h.0) c (λ k. plain_alias d p x t r h.1 h.2 k)
-look_way s d (alias (noted p x n) t) r h c o =
-    by_pattern s d (alias (noted p x n) t) r (is_alias s h.0) c (λ k. alias_way d p x n t r h.1 h.2 k)
-look_way s d (alias x t) r h c o = never (assumption h.1)
-look_way s d (list p none) r h c o =
-    (p, Symbol S.OpenBracket, h.0, _, refl, λ z. second_way (refl, (r, refl, (refl, refl))))
-look_way s d (list p (more x xs)) r h c o = (
-  p,
-  Symbol S.OpenBracket,
-  h.0,
-  _,
-  refl,
-  λ z. first_way (
-    opens_tree (item_sort s) (suc d) x _,
-    (
-      (x, xs),
-      h.1,
-      _,
-      refl,
-      (refl, (refl, (refl, tt))),
-      λ y. second_way (refl, (r, refl, (refl, refl))),
-    ),
-  ),
-)
-look_way s d (list_on p x xs u) r h c o = (
-  p,
-  Symbol S.OpenBracket,
-  h.0,
-  _,
-  refl,
-  λ z. first_way (
-    opens_tree (item_sort s) (suc d) x _,
-    (
-      (x, xs),
-      (h.1, h.2),
-      _,
-      refl,
-      (refl, (refl, (refl, tt))),
-      λ y. first_way (
-        refl,
-        (
-          _,
-          refl,
-          (u, h.3, _, refl, (refl, (refl, tt)), λ w. (r, refl, (refl, refl))),
-        ),
-      ),
-    ),
-  ),
-)
-look_way s d (tuple p none) r h c o =
-    (p, Symbol S.OpenBrace, h.0, _, refl, λ z. second_way (refl, (r, refl, (refl, refl))))
-look_way s d (tuple p (more x xs)) r h c o = (
-  p,
-  Symbol S.OpenBrace,
-  h.0,
-  _,
-  refl,
-  λ z. first_way (
-    opens_tree (item_sort s) (suc d) x _,
-    (
-      (x, xs),
-      h.1,
-      _,
-      refl,
-      (refl, (refl, (refl, tt))),
-      λ y. (r, refl, (refl, refl)),
-    ),
-  ),
-)
-look_way s d (values p none) r h c o =
-    (p, Symbol S.OpenAngle, h.0, _, refl, λ z. second_way (refl, (r, refl, (refl, refl))))
-look_way s d (values p (more x xs)) r h c o = (
-  p,
-  Symbol S.OpenAngle,
-  h.0,
-  _,
-  refl,
-  λ z. first_way (
-    opens_tree expression (suc d) x _,
-    (
-      (x, xs),
-      h.1,
-      _,
-      refl,
-      (refl, (refl, (refl, tt))),
-      λ y. (r, refl, (refl, refl)),
-    ),
-  ),
-)
-look_way s d (new_map p no_pair) r h c o =
-    (p, Symbol S.OpenMap, h.0, _, refl, λ z. second_way (refl, map_none s d p no_pair z tt r))
-look_way s d (new_map p (pair x b u ps)) r h c o = (
-  p,
-  Symbol S.OpenMap,
-  h.0,
-  _,
-  refl,
-  λ z. first_way (
-    opens_tree (key_sort s) (suc d) x _,
-    (
-      (x, b, u, ps),
-      h.1,
-      _,
-      refl,
-      (refl, (refl, (refl, tt))),
-      λ y. map_none s d p (pair x b u ps) z y r,
-    ),
-  ),
-)
-look_way s d (map_on p no_pair t) r h c o = (
-  p,
-  Symbol S.OpenMap,
-  expression_constant s h.0,
-  _,
-  refl,
-  λ z. second_way (
-    refl,
-    map_some s d p no_pair t z tt r h.0 h.2,
-  ),
-)
-look_way s d (map_on p (pair x b u ps) t) r h c o = (
-  p,
-  Symbol S.OpenMap,
-  expression_constant s h.0,
-  _,
-  refl,
-  λ z. first_way (
-    opens_tree (key_sort s) (suc d) x _,
-    ((x, b, u, ps), h.1, _, refl, (refl, (refl, (refl, tt))), λ y. map_some s d p (pair x b u ps) t z y r h.0 h.2),
-  ),
-)
-look_way s d (binary p no_segment) r h c o =
-    (p, Symbol S.OpenBinary, binary_taken s no_segment h.0, _, refl, λ z. second_way (refl, (r, refl, (refl, refl))))
-look_way s d (binary p (and_segment g gs)) r h c o = (
-  p,
-  Symbol S.OpenBinary,
-  binary_taken s (and_segment g gs) h.0,
-  _,
-  refl,
-  λ z. first_way (
-    opens_segment s (suc d) g _,
-    ((g, gs), (h.1, strict_bits s (and_segment g gs) h.0), _, refl, (refl, tt), λ y. (r, refl, (refl, refl))),
-  ),
-)
-look_way s d (fun p xs t) r h c o = fun_way s d p xs t r h.0 h.1 h.2 c
-look_way s d (let_in p xs t u) r h c o =
-    (p, Word W.Let, h.0, _, refl, λ z. (xs, h.1, _, refl, (refl, (refl, tt)), λ y. (_, refl, (t, h.2, _, refl, (refl, (refl, tt)), λ y. (_, refl, (u, h.3, r, refl, (plain s d (suc d) r c), λ y. (refl, refl)))))))
-look_way s d (letrec p no_definition t) r h c o =
-    (p, Word W.Letrec, h.0, _, refl, λ z. second_way (refl, (_, refl, (t, h.2, r, refl, (plain s d (suc d) r c), λ y. (refl, refl)))))
-look_way s d (letrec p (definition x v ds) t) r h c o = (
-  p,
-  Word W.Letrec,
-  h.0,
-  _,
-  refl,
-  λ z. first_way (
-    opens_tree a_name (suc (suc d)) x _,
-    (
-      (x, v, ds),
-      h.1,
-      _,
-      refl,
-      (refl, (refl, (refl, tt))),
-      λ y. (_, refl, (t, h.2, r, refl, (plain s d (suc d) r c), λ y. (refl, refl))),
-    ),
-  ),
-)
-look_way s d (case p t k no_clause) r h c o =
-    (p, Word W.Case, h.0, _, refl, λ z. (t, h.1, _, refl, (refl, (refl, tt)), λ y. (_, refl, (k, h.2, _, refl, (refl, (refl, (refl, tt))), λ x. second_way (refl, (r, refl, (refl, refl)))))))
-look_way s d (case p t k (and_clause q qs)) r h c o = (
-  p,
-  Word W.Case,
-  h.0,
-  _,
-  refl,
-  λ z. (
-    t,
-    h.1,
-    _,
-    refl,
-    (refl, (refl, tt)),
-    λ y. (
-      _,
-      refl,
-      (
-        k,
-        h.2,
-        _,
-        refl,
-        clause_calm (suc d) q _,
-        λ x.
-            first_way (opens_clause (suc d) q _, ((q, qs), h.3, _, refl, (refl, (refl, (refl, (refl, tt)))), λ w. (r, refl, (refl, refl)))),
-      ),
-    ),
-  ),
-)
-look_way s d (apply p t none) r h c o =
-    (p, Word W.Apply, h.0, _, refl, λ z. (t, h.1, _, refl, (refl, (refl, tt)), λ y. (_, refl, second_way (refl, (r, refl, (refl, refl))))))
-look_way s d (apply p t (more x xs)) r h c o = (
-  p,
-  Word W.Apply,
-  h.0,
-  _,
-  refl,
-  λ z. (
-    t,
-    h.1,
-    _,
-    refl,
-    (refl, (refl, tt)),
-    λ y. (
-      _,
-      refl,
-      first_way (
-        opens_tree expression (suc d) x _,
-        ((x, xs), h.2, _, refl, (refl, (refl, (refl, tt))), λ w. (r, refl, (refl, refl))),
-      ),
-    ),
-  ),
-)
-look_way s d (call_of p t u none) r h c o =
-    (p, Word W.Call, h.0, _, refl, λ z. (t, h.1, _, refl, (refl, (refl, tt)), λ y. (_, refl, (u, h.2, _, refl, (refl, (refl, tt)), λ y. (_, refl, second_way (refl, (r, refl, (refl, refl))))))))
-look_way s d (call_of p t u (more x xs)) r h c o = (
-  p,
-  Word W.Call,
-  h.0,
-  _,
-  refl,
-  λ z. (
-    t,
-    h.1,
-    _,
-    refl,
-    (refl, (refl, tt)),
-    λ y. (
-      _,
-      refl,
-      (
-        u,
-        h.2,
-        _,
-        refl,
-        (refl, (refl, tt)),
-        λ y. (
-          _,
-          refl,
-          first_way (
-            opens_tree expression (suc d) x _,
-            ((x, xs), h.3, _, refl, (refl, (refl, (refl, tt))), λ w. (r, refl, (refl, refl))),
-          ),
-        ),
-      ),
-    ),
-  ),
-)
-look_way s d (primop p a none) r h c o =
-    (p, Word W.Primop, h.0, _, refl, λ z. (a.place, Atom a.name, refl, _, refl, λ v. (_, refl, second_way (refl, (r, refl, (refl, refl))))))
-look_way s d (primop p a (more x xs)) r h c o = (
-  p,
-  Word W.Primop,
-  h.0,
-  _,
-  refl,
-  λ z. (
-    a.place,
-    Atom a.name,
-    refl,
-    _,
-    refl,
-    λ v. (
-      _,
-      refl,
-      first_way (
-        opens_tree expression (suc d) x _,
-        ((x, xs), h.1, _, refl, (refl, (refl, (refl, tt))), λ w. (r, refl, (refl, refl))),
-      ),
-    ),
-  ),
-)
-look_way s d (do_then p t u) r h c o =
-    (p, Word W.Do, h.0, _, refl, λ z. (t, h.1, _, refl, tree_calm (suc d) u r, λ y. (u, h.2, r, refl, (plain s d (suc d) r c), λ y. (refl, refl))))
-look_way s d (catch p t) r h c o = (p, Word W.Catch, h.0, _, refl, λ z. (t, h.1, r, refl, (plain s d (suc d) r c), λ y. (refl, refl)))
-look_way s d (try p t xs u ys v) r h c o = (
-  p,
-  Word W.Try,
-  h.0,
-  _,
-  refl,
-  λ z. (
-    t,
-    h.1,
-    _,
-    refl,
-    (refl, (refl, tt)),
-    λ y. (
-      _,
-      refl,
-      (
-        xs,
-        h.2,
-        _,
-        refl,
-        (refl, (refl, tt)),
-        λ x. (
-          _,
-          refl,
-          (
-            u,
-            h.3,
-            _,
-            refl,
-            (refl, (refl, tt)),
-            λ y. (
-              _,
-              refl,
-              (
-                ys,
-                h.4,
-                _,
-                refl,
-                group_calm (suc d) ys (on true expression (suc d) v r),
-                λ w. (
-                  _,
-                  refl,
-                  (v, h.5, r, refl, (plain s d (suc d) r c), λ y. (refl, refl)),
-                ),
-              ),
-            ),
-          ),
-        ),
-      ),
-    ),
-  ),
-)
-look_way s d (receive p no_clause t u) r h c o =
-    (p, Word W.Receive, h.0, _, refl, λ z. second_way (refl, (_, refl, (t, h.2, _, refl, (refl, (refl, tt)), λ y. (_, refl, (u, h.3, r, refl, (plain s d (suc d) r c), λ y. (refl, refl)))))))
-look_way s d (receive p (and_clause q qs) t u) r h c o = (
-  p,
-  Word W.Receive,
-  h.0,
-  _,
-  refl,
-  λ z. first_way (
-    opens_clause (suc d) q _,
-    (
-      (q, qs),
-      h.1,
-      _,
-      refl,
-      (refl, (refl, (refl, (refl, tt)))),
-      λ x. (
-        _,
-        refl,
-        (t, h.2, _, refl, (refl, (refl, tt)), λ y. (_, refl, (u, h.3, r, refl, (plain s d (suc d) r c), λ y. (refl, refl)))),
-      ),
-    ),
-  ),
-)
-
-noted_key : (d : ℕ) (p q : Place) (t n : Tree) (r : List Sign) → q ≡ p → (i : Stands key t) → Stands note n
-    → Along (noted_key_plan d q t i) (noted p t n)
-    (symbol (suc (key_weight t + d)) S.AnnotationBar (on true note (suc (key_weight t + d)) n
-    (symbol (suc (key_weight t + d)) S.CloseParen r))) r
-noted_key d p q t n r e i h =
-    (_, refl, (n, h, _, refl, (refl, (refl, tt)), λ j. (r, refl, (ap (λ x. noted x t n) e, refl))))
-
--- a key that is not annotated
-key_way : (d : ℕ) (t : Tree) (r : List Sign) → Stands key t → Follows (tree_part key d) r
-    → Along (key_plan d) t (on true key d t r) r
-key_way d (noted p t n) r h c =
-    first_way (refl, (t, h.0, p, _, refl, (refl, (refl, tt)), λ w f i. noted_key d p w.place t n r f.1 i h.1))
-key_way d (alias x t) r h c = never h.0
-key_way d t r h c = second_way (refl, look_way key d t r h c refl)
-
-pub tree_way : (s : Sort) (d : ℕ) (t : Tree) (r : List Sign) → Stands s t → Follows (tree_part s d) r
-    → Along (tree_plan s d) t (on true s d t r) r
-tree_way key d t r h c = key_way d t r h c
-tree_way s d t r h c = look_way s d t r h c refl

@@ -21,7 +21,7 @@ pub record OneAnswer (ts : List Token) : Type 0 where
   pub syntax_or_nesting : (p q : Place) → FirstSyntaxFault ts p → NestingFault ts q → ⊥
 
 -- what closed tokens are
-pub data Answer (ts : List Token) : Type 0 where
-  is_text : (m : Module) → ModuleText ts m → NestsWithin most_depth ts → Answer ts
-  has_syntax_fault : (p : Place) → FirstSyntaxFault ts p → Answer ts
-  has_nesting_fault : (p : Place) → NestingFault ts p → Answer ts
+pub data TextAnswer (ts : List Token) : Type 0 where
+  is_text : (m : Module) → ModuleText ts m → NestsWithin most_depth ts → TextAnswer ts
+  has_syntax_fault : (p : Place) → FirstSyntaxFault ts p → TextAnswer ts
+  has_nesting_fault : (p : Place) → NestingFault ts p → TextAnswer ts

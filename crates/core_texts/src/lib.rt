@@ -1,6 +1,6 @@
 //! Laws of the texts of Core Erlang: what their tokens are, and that every list of tokens has its one answer.
 //!
-//! `module 'm' [] attributes [] end` is a text, and of one tree alone. Without its first `[` the fault is the `]`, since
+//! `module 'm' [] attributes [] end` is a text, and of one tree alone. Without its first `[` the fault is the `]`:
 //! `module 'm'` begins texts and `module 'm' ]` begins none. Where braces stand in braces, and so on, the fault is the
 //! first token deeper than 2,000. No tokens are two of these at once, and closed ones, which end with the end of the
 //! text or with a bad token, are one of them.
@@ -16,7 +16,8 @@
 ghost use Rattle.std.specs.Prelude.{List};
 ghost use Rattle.core_lex.specs.declared.token.Token.{Token};
 ghost use Rattle.core_lex.specs.Tokens.{IsClosed};
-ghost use Rattle.core_texts.specs.Answers.{OneTree, OnePlace, OneAnswer, Answer};
+ghost use Rattle.core_texts.specs.Answers.{OneTree, OnePlace, OneAnswer, TextAnswer};
+ghost use Rattle.core_texts.specs.Examples.{FaultExamples};
 
 /// A text has one tree, places included.
 pub fn a_text_has_one_tree()
@@ -37,5 +38,11 @@ pub fn tokens_have_one_answer()
 
 /// Closed tokens have an answer: they are a text within the depth, or have a first fault.
 pub fn closed_tokens_have_an_answer()
-    ensures { (ts : List Token) → IsClosed ts → Answer ts }
+    ensures { (ts : List Token) → IsClosed ts → TextAnswer ts }
+{}
+
+/// Texts are refused at the token that no text goes on with.
+#[tactic(auto, using(crate::proofs::Computed::fault_examples))]
+pub fn faults_stand_where_they_may()
+    ensures { FaultExamples }
 {}
