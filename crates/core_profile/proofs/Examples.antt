@@ -1,5 +1,5 @@
 -- Small texts with what is not compiled in them and the limits that they pass: computed, row by row of the tables.
-use Rattle.std.proofs.Common.{◌≡◌, ℕ, zero, suc, List, [], ◌∷◌, Bool, true, false, Option, Some, None, pos, codes, refl}
+use Rattle.std.proofs.Common.{◌≡◌, ℕ, zero, suc, List, [], ◌∷◌, Some, None, pos, codes, refl}
 use Rattle.erl_base.specs.Names.{Name}
 use Rattle.erl_base.specs.declared.ids.Place.{Place}
 use Rattle.erl_base.specs.declared.ids.FunKey.{FunKey}
@@ -12,7 +12,7 @@ use Rattle.erl_term.specs.Term as T
 use Rattle.erl_term.specs.Term.{Term}
 use Rattle.core_form.specs.declared.tree.Binder.{Binder}
 use Rattle.core_form.specs.declared.module.FunName.{FunName}
-use Rattle.core_form.specs.Core.{Module, Expr, values, var, fun_name, literal, list, tuple, map_of, binary, fun, let_in, letrec, case, apply, call, primop, do_then, catch, try, receive, Exprs, no_expr, and_expr, no_part, and_part, map_part, no_segment, and_segment, segment, Defs, no_def, and_def, def, Clauses, no_clause, and_clause, clause, Pattern, any, alias, known, bits_like, map_like, Patterns, no_pattern, and_pattern, no_key, and_key, key_pattern, no_seg, and_seg, seg_pattern}
+use Rattle.core_form.specs.Core.{Module, Expr, var, fun_name, literal, tuple, binary, fun, letrec, case, apply, call, primop, receive, Exprs, no_expr, and_expr, no_segment, and_segment, segment, Defs, no_def, and_def, def, no_clause, and_clause, clause, any, bits_like, Patterns, no_pattern, and_pattern, no_seg, and_seg, seg_pattern}
 use Rattle.core_form.specs.Walks.{all_in}
 use Rattle.core_profile.specs.ProfileFaults.{outside_of, profile_faults}
 use Rattle.core_profile.specs.LimitFaults.{limits_of, over, limit_faults, definition_limits, most_nodes}
@@ -57,7 +57,8 @@ abbrev outside_in : Expr → List Refusal
 outside_in e = all_in outside_of e
 
 abbrev one_segment : Expr → ℕ → Name → Term → Expr
-one_segment size unit kind flags = binary (at 1) (and_segment (segment (at 2) (one 3) size (T.int (pos unit)) kind flags) no_segment)
+one_segment size unit kind flags =
+    binary (at 1) (and_segment (segment (at 2) (one 3) size (T.int (pos unit)) kind flags) no_segment)
 
 -- Floats.
 
@@ -83,7 +84,8 @@ trace_of_none = refl
 
 -- Float functions.
 
-quotient : outside_in (call (at 1) (atom (codes "erlang")) (atom (codes "/")) (and_expr (one 2) (and_expr (one 3) no_expr)))
+quotient :
+    outside_in (call (at 1) (atom (codes "erlang")) (atom (codes "/")) (and_expr (one 2) (and_expr (one 3) no_expr)))
     ≡ fault 1 (Profile FloatFunction) ∷ []
 quotient = refl
 
@@ -92,7 +94,8 @@ quotient_of_another_module :
 quotient_of_another_module = refl
 
 float_of_two :
-    outside_in (call (at 1) (atom (codes "erlang")) (atom (codes "float")) (and_expr (one 2) (and_expr (one 3) no_expr))) ≡ []
+    outside_in (call (at 1) (atom (codes "erlang")) (atom (codes "float"))
+    (and_expr (one 2) (and_expr (one 3) no_expr))) ≡ []
 float_of_two = refl
 
 -- Segments.
@@ -133,7 +136,8 @@ all_of_a_binary : outside_in (one_segment (atom (codes "all")) 8 (codes "binary"
 all_of_a_binary = refl
 
 all_in_a_pattern : outside_in (case (at 1) (one 2) (and_clause (clause (at 3) (and_pattern (bits_like (at 4)
-    (and_seg (seg_pattern (at 5) (any (at 6) (codes "X")) (atom (codes "all")) (T.int (pos 8)) (codes "integer") big) no_seg))
+    (and_seg (seg_pattern (at 5) (any (at 6) (codes "X")) (atom (codes "all"))
+    (T.int (pos 8)) (codes "integer") big) no_seg))
     no_pattern) (one 7) (one 8)) no_clause)) ≡ fault 5 (Profile SegmentForm) ∷ []
 all_in_a_pattern = refl
 
@@ -179,19 +183,22 @@ arguments_of_255 = refl
 arguments_of_256 : limits_in (apply (at 1) (one 2) (ones 256)) ≡ fault 1 (Limit Arity 256) ∷ []
 arguments_of_256 = refl
 
-inner_name_of_256 : limits_in (letrec (at 1) (and_def (def (at 2) (key (codes "f") 256) (fun (at 3) [] (one 4))) no_def) (one 5))
+inner_name_of_256 : limits_in (letrec (at 1) (and_def (def (at 2) (key (codes "f") 256) (fun (at 3) [] (one 4)))
+    no_def) (one 5))
     ≡ fault 2 (Limit Arity 256) ∷ []
 inner_name_of_256 = refl
 
 -- a definition of 256 parameters passes the limit at its name and at its fun
-definition_of_256 : limit_faults (module_of [] (and_def (def (at 1) (key (codes "f") 256) (fun (at 2) (binders 256) (one 3))) no_def))
+definition_of_256 :
+    limit_faults (module_of [] (and_def (def (at 1) (key (codes "f") 256) (fun (at 2) (binders 256) (one 3))) no_def))
     ≡ fault 1 (Limit Arity 256) ∷ fault 2 (Limit Arity 256) ∷ []
 definition_of_256 = refl
 
 -- a fun of n parameters that captures a variable
 abbrev capturing : ℕ → Module
 capturing n = module_of [] (and_def (def (at 1) (key (codes "f") 1)
-    (fun (at 2) (record { name = codes "Y"; place = at 3 } ∷ []) (fun (at 4) (binders n) (var (at 5) (codes "Y"))))) no_def)
+    (fun (at 2) (record { name = codes "Y"; place = at 3 } ∷ [])
+    (fun (at 4) (binders n) (var (at 5) (codes "Y"))))) no_def)
 
 captures_within : limit_faults (capturing 254) ≡ []
 captures_within = refl

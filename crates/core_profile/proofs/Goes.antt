@@ -1,6 +1,6 @@
 -- What a stretch of the walk for limits does: the limits that it meets, the functions that it passes, the nodes that it
 -- counts.
-use Rattle.std.proofs.Common.{◌≡◌, ◌⊎◌, inl, inr, ℕ, suc, ◌+◌, ◌<◌, ◌≤◌, List, [], ◌∷◌, ◌++◌, length, get_or, min, Bool, true, false, ltb, if◌then◌else◌, refl, sym, ap, ◌∙◌, subst, arith, append_assoc, length-append}
+use Rattle.std.proofs.Common.{◌≡◌, inl, inr, ℕ, suc, ◌+◌, ◌<◌, List, [], ◌∷◌, ◌++◌, length, get_or, Bool, true, false, ltb, if◌then◌else◌, refl, sym, ap, ◌∙◌, subst, arith, append_assoc, length-append}
 use Rattle.std.specs.List.{sum}
 use Rattle.std.proofs.lemmas.Bool.{lt-ltb, le-ltb, cases_lt}
 use Rattle.std.proofs.Math.Nat.{add-zero}
@@ -16,7 +16,7 @@ use Rattle.first_fault.proofs.First.{first_with_both}
 use Rattle.core_form.specs.Sites.{Site}
 use Rattle.core_profile.specs.declared.progress.Progress.{Progress}
 use Rattle.core_profile.specs.LimitFaults.{capped, most_count, over, over_arity, site_limits, capture_counts}
-use Rattle.core_profile.specs.LimitWalk.{meeting, with_nodes, nodes_from, function_at, function_if}
+use Rattle.core_profile.specs.LimitWalk.{meeting, with_nodes, nodes_from, function_if}
 use Rattle.core_profile.proofs.Same.{Same, itself, through, both, other_way, crossed, swapped, grouped, equal}
 
 -- what is told of functions
@@ -34,7 +34,8 @@ seen_both false xs ys = refl
 seen_both true [] ys = refl
 seen_both true (x ∷ xs) ys =
     ap (λ l. over_arity x.fun_place (length x.params + length x.captures) ++ l) (seen_both true xs ys)
-    ∙ sym (append_assoc (over_arity x.fun_place (length x.params + length x.captures)) (site_limits xs) (site_limits ys))
+    ∙ sym (append_assoc (over_arity x.fun_place (length x.params + length x.captures))
+    (site_limits xs) (site_limits ys))
 
 -- what functions pass, in two stretches
 pub sites_both : (xs ys : List Site) → site_limits (xs ++ ys) ≡ site_limits xs ++ site_limits ys
@@ -220,7 +221,8 @@ module _ (counts : List ℕ) where
   }
 
   count_here : (i : ℕ) (x : Site) → Placed i (x ∷ []) → get_or counts i 0 ≡ length x.captures
-  count_here i x h = ap (λ l. get_or l i 0) h.is ∙ ap (λ k. get_or (h.before ++ length x.captures ∷ h.behind) k 0) (sym h.here)
+  count_here i x h = ap (λ l. get_or l i 0) h.is
+      ∙ ap (λ k. get_or (h.before ++ length x.captures ∷ h.behind) k 0) (sym h.here)
       ∙ get_or-append_seam h.before (length x.captures) h.behind 0
 
   here_within : (i : ℕ) (x : Site) → Placed i (x ∷ []) → i < length counts

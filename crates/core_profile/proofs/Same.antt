@@ -1,6 +1,6 @@
 -- Lists with the same members have the same first fault.
-use Rattle.std.proofs.Common.{◌≡◌, ◌⊎◌, inl, inr, ℕ, ◌<◌, List, [], ◌∷◌, ◌++◌, length, get_or, refl, sym, subst, false, append_assoc, arith}
-use Rattle.std.specs.List.{Contains, All}
+use Rattle.std.proofs.Common.{◌≡◌, inl, inr, List, [], ◌∷◌, ◌++◌, get_or, refl, subst, false, append_assoc, arith}
+use Rattle.std.specs.List.{Contains}
 use Rattle.std.proofs.lemmas.List.Elements.{All-contains, Contains-get_or, Contains-append_left, Contains-append_right, Contains-append_cases}
 use Rattle.erl_base.specs.declared.refusal.Refusal.{Refusal}
 use Rattle.first_fault.specs.FirstFault.{comes_before, IsFirst}

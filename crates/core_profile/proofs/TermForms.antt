@@ -1,5 +1,5 @@
 -- Terms that are lists: their items and what is behind them.
-use Rattle.std.proofs.Common.{◌≡◌, List, [], ◌∷◌, Bool, true, false, ◌&&◌, ◌||◌, map, codes, refl, sym, ap, ◌∙◌}
+use Rattle.std.proofs.Common.{◌≡◌, List, [], ◌∷◌, false, ◌&&◌, ◌||◌, map, codes, refl, sym, ap, ◌∙◌}
 use Rattle.std.specs.List.{list_all, list_any}
 use Rattle.erl_base.specs.Names.{same_name}
 use Rattle.erl_base.specs.declared.ids.Place.{Place}

@@ -1,5 +1,5 @@
 -- Texts with the same characters are one text.
-use Rattle.std.proofs.Common.{◌≡◌, refl, sym, ap, ap₂, ◌∙◌, subst, List, [], ◌∷◌, ℕ, chars, IsUtf8, Bool, true, false, ◌&&◌, eqb, IsTrue, bytes_eq, ◌↔◌, rules, nat_lt, slice_index, zero, suc, ◌<◌, arith}
+use Rattle.std.proofs.Common.{◌≡◌, refl, sym, ap, ap₂, ◌∙◌, subst, List, [], ◌∷◌, ℕ, chars, IsUtf8, Bool, true, false, ◌&&◌, eqb, bytes_eq, rules, nat_lt, slice_index, zero, suc, ◌<◌, arith}
 use Rattle.std.proofs.lemmas.Str.{encodes-chars, chars-IsAscii, chars-nil}
 use lib.Utf8.{encodes}
 use borrow.Author.Tests.{eqb-true, eq-eqb, ltb-true}
@@ -37,7 +37,8 @@ below_all (c ∷ cs) e (suc i) = below_all cs (right (nat_lt c 128) _ e) i
 -- a comparison of texts compares their characters
 told : (r : Bool) (a b : List ℕ) → IsUtf8 a → IsUtf8 b → r ≡ bytes_eq a b → r ≡ same_name (chars a) (chars b)
 told r a b u v e = both r (same_name (chars a) (chars b))
-    (λ t. let h : a ≡ b = search (rules, t, e) in subst (λ z. same_name (chars a) (chars z) ≡ true) h (itself (chars a)))
+    (λ t. let h : a ≡ b = search (rules, t, e) in
+    subst (λ z. same_name (chars a) (chars z) ≡ true) h (itself (chars a)))
     (λ s. let h : a ≡ b = sym (encodes-chars a u) ∙ ap encodes (same (chars a) (chars b) s) ∙ encodes-chars b v in
     search (rules, h, e))
 

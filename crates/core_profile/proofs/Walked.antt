@@ -1,13 +1,12 @@
 -- The walk for limits meets what each piece is asked for and what its functions pass, form by form.
-use Rattle.std.proofs.Common.{◌≡◌, ℕ, suc, ◌+◌, List, [], ◌∷◌, ◌++◌, length, Bool, true, false, refl, sym, ap, ◌∙◌, arith}
-use Rattle.std.specs.List.{sum}
+use Rattle.std.proofs.Common.{◌≡◌, ℕ, suc, ◌+◌, List, [], ◌∷◌, ◌++◌, length, Bool, false, sym, ap, ◌∙◌, arith}
 use Rattle.std.proofs.Math.Nat.{add-zero, zero-add}
 use Rattle.std.proofs.lemmas.List.{append-nil}
 use Rattle.std.proofs.lemmas.List.Sums.{sum_by-append}
 use Rattle.erl_base.specs.declared.ids.Place.{Place}
 use Rattle.erl_base.specs.declared.refusal.Refusal.{Refusal}
 use Rattle.erl_base.specs.declared.refusal.LimitName.TheVariants.{Receive}
-use Rattle.core_form.specs.Core.{Expr, values, var, fun_name, literal, list, tuple, new_map, map_of, binary, fun, let_in, letrec, case, apply, call, primop, do_then, catch, try, receive, Exprs, no_expr, and_expr, MapParts, no_part, and_part, map_part, Segments, no_segment, and_segment, segment, Def, Defs, no_def, and_def, def, Clauses, no_clause, and_clause, clause, Pattern, any, alias, known, list_like, tuple_like, map_like, bits_like, Patterns, no_pattern, and_pattern, KeyPatterns, no_key, and_key, key_pattern, SegPatterns, no_seg, and_seg, seg_pattern}
+use Rattle.core_form.specs.Core.{Expr, values, var, fun_name, literal, list, tuple, new_map, map_of, binary, fun, let_in, letrec, case, apply, call, primop, do_then, catch, try, receive, Exprs, no_expr, and_expr, MapParts, no_part, and_part, map_part, Segments, no_segment, and_segment, segment, Defs, no_def, and_def, def, Clauses, no_clause, and_clause, clause, Pattern, any, alias, known, list_like, tuple_like, map_like, bits_like, Patterns, no_pattern, and_pattern, KeyPatterns, no_key, and_key, key_pattern, SegPatterns, no_seg, and_seg, seg_pattern}
 use Rattle.core_form.specs.Scope.{Scope, Use, with_names, names_of, bound_all}
 use Rattle.core_form.specs.Captures.{in_group, group_captures, sites_in, sites_in_all, sites_in_parts, sites_in_defs, sites_in_clauses}
 use Rattle.core_form.specs.Sites.{Site, fun_site, named_site, sites, sites_all, sites_parts, sites_segments, sites_defs, sites_clauses}
@@ -16,8 +15,8 @@ use Rattle.core_form.specs.Nodes.{node, nodes, head_nodes, pattern_nodes}
 use Rattle.core_profile.specs.declared.progress.Progress.{Progress}
 use Rattle.core_profile.specs.declared.progress.InReceive.{InReceive}
 use Rattle.core_profile.specs.LimitFaults.{limits_of, capped, over, over_arity, name_limits, most_receive_nodes}
-use Rattle.core_profile.specs.LimitWalk.{meeting, with_nodes, nodes_from, function_if, walk, walk_exprs, walk_parts, walk_segments, walk_def, walk_defs, function_unless, receive_end, walk_clauses, walk_pattern, walk_patterns, walk_keys, walk_segs}
-use Rattle.core_profile.proofs.Same.{Same, itself, through, both, other_way, crossed, swapped, grouped, equal}
+use Rattle.core_profile.specs.LimitWalk.{meeting, with_nodes, nodes_from, function_if, walk, walk_exprs, walk_parts, walk_segments, walk_defs, receive_end, walk_clauses, walk_pattern, walk_patterns, walk_keys, walk_segs}
+use Rattle.core_profile.proofs.Same.{itself, both, crossed, equal}
 use Rattle.core_profile.proofs.Goes.{Goes, Walks, Stand, onward, counting, binding, meets, asked_as, quiet, idle, passing, clause_head, over_same, stand_front, stand_on}
 
 module _ (counts : List ℕ) where
@@ -139,7 +138,7 @@ module _ (counts : List ℕ) where
 
     walked_segments : (b : Bool) (ss : Segments) (g : Scope) (k : ℕ) (s : Progress)
         → Walks counts b s (walk_segments counts b ss s) (all_segments limits_of ss) (sites_segments ss g k)
-            (all_segments node ss)
+        (all_segments node ss)
     walked_segments b no_segment g k s = idle counts b s
     walked_segments b (and_segment (segment p v z u ty f) ss) g k s =
         let t = with_nodes 1 s in
@@ -150,7 +149,7 @@ module _ (counts : List ℕ) where
 
     walked_defs : (b : Bool) (ds : Defs) (g : Scope) (us : List Use) (k : ℕ) (s : Progress)
         → Walks counts b s (walk_defs counts b ds s) (name_limits ds ++ all_defs limits_of ds) (sites_defs ds g us k)
-            (all_defs node ds)
+        (all_defs node ds)
     walked_defs b no_def g us k s = idle counts b s
     walked_defs b (and_def (def p f (fun q xs e)) ds) g us k s =
         let t = meeting (over_arity p f.arity) s in
@@ -173,7 +172,7 @@ module _ (counts : List ℕ) where
     walked_clauses : (b : Bool) (cs : Clauses) (g : Scope) (k : ℕ) (h : InReceive)
         → Stand counts b h.progress.site (sites_clauses cs g k)
         → Heads b h (walk_clauses counts b cs h) (all_clauses limits_of cs) (sites_clauses cs g k) (all_clauses node cs)
-            (head_nodes cs)
+        (head_nodes cs)
     walked_clauses b no_clause g k h l =
         record { goes = idle counts b h.progress l; heads = ap capped (sym (add-zero h.heads)) }
     walked_clauses b (and_clause (clause p qs q e) cs) g k h l =
@@ -190,8 +189,8 @@ module _ (counts : List ℕ) where
         let others = walked_clauses b cs g (j + sites_in e) rest in
         let there = stand_on counts one (sites_clauses cs g (j + sites_in e)) l in
         let first = in_head (stand_front counts b h.progress.site (sites q inner k)
-            (sites e inner j) (stand_front counts b h.progress.site (sites q inner k ++ sites e inner j)
-            (sites_clauses cs g (j + sites_in e)) l)) in
+        (sites e inner j) (stand_front counts b h.progress.site (sites q inner k ++ sites e inner j)
+        (sites_clauses cs g (j + sites_in e)) l)) in
         record {
           goes = onward counts one (heads_go {h = rest} others) l;
           heads = more_heads (head_nodes cs) 0 head.nodes h.heads (pattern_nodes qs) (nodes q) _

@@ -1,6 +1,5 @@
 -- The walk for limits through a whole module meets its limits and no others.
-use Rattle.std.proofs.Common.{◌≡◌, ℕ, suc, ◌+◌, ◌<◌, List, [], ◌∷◌, ◌++◌, length, Bool, true, false, Option, Some, None, eqb, map, refl, sym, ap, ◌∙◌, subst, arith, append_assoc, length-append}
-use Rattle.std.specs.List.{sum}
+use Rattle.std.proofs.Common.{◌≡◌, ℕ, suc, ◌+◌, List, [], ◌∷◌, ◌++◌, length, true, None, eqb, map, refl, sym, ap, ◌∙◌, subst, arith, length-append}
 use Rattle.std.proofs.Math.Nat.{add-zero, zero-add}
 use Rattle.std.proofs.lemmas.List.{append-nil}
 use Rattle.std.proofs.lemmas.List.Sums.{sum_by-cons}
@@ -12,7 +11,7 @@ use Rattle.core_form.specs.declared.tree.Def as Code
 use Rattle.core_form.specs.Core.{Module, Expr, fun, Defs, no_def, and_def, def}
 use Rattle.core_form.specs.Scope.{Scope, names_of, with_names, params_of, body_of}
 use Rattle.core_form.specs.Captures.{sites_in}
-use Rattle.core_form.specs.Sites.{Site, place_of, named_site, sites, own_sites, inner_sites, module_scope, module_sites, def_count}
+use Rattle.core_form.specs.Sites.{place_of, sites, own_sites, inner_sites, module_scope, module_sites, def_count}
 use Rattle.core_form.specs.View.{def_view, defs}
 use Rattle.core_form.specs.Walks.{all_in, all_defs}
 use Rattle.core_form.specs.Nodes.{node, nodes}
@@ -20,7 +19,7 @@ use Rattle.core_profile.specs.declared.progress.Progress.{Progress}
 use Rattle.core_profile.specs.LimitFaults.{limits_of, capped, over, over_arity, most_nodes, most_definitions, counted_in_text, export_limits, name_limits, site_limits, definition_limits, limit_faults, capture_counts}
 use Rattle.core_profile.specs.LimitWalk.{meeting, nodes_from, walk, head_count, definition_end, walk_definition, walk_module}
 use Rattle.core_profile.proofs.Same.{Same, itself, through, both, other_way, crossed, grouped, equal}
-use Rattle.core_profile.proofs.Goes.{Goes, Placed, placed_front, placed_back, counts_both, counts_length, over_same, sites_both}
+use Rattle.core_profile.proofs.Goes.{Placed, placed_front, placed_back, counts_both, counts_length, over_same, sites_both}
 use Rattle.core_profile.proofs.Walked.{walked}
 use Rattle.first_fault.specs.FirstFault.{first_with, fault_if}
 use Rattle.first_fault.proofs.First.{first_with_both}
@@ -28,7 +27,7 @@ use Rattle.first_fault.proofs.First.{first_with_both}
 -- five lists, each of its front and its rest
 in_five : (a b c d e u v w x y : List Refusal)
     → Same ((((a ++ b) ++ (c ++ d)) ++ e) ++ (((u ++ v) ++ (w ++ x)) ++ y))
-        ((((a ++ u) ++ (b ++ v)) ++ ((c ++ w) ++ (d ++ x))) ++ (e ++ y))
+    ((((a ++ u) ++ (b ++ v)) ++ ((c ++ w) ++ (d ++ x))) ++ (e ++ y))
 in_five a b c d e u v w x y =
     through (crossed ((a ++ b) ++ (c ++ d)) e ((u ++ v) ++ (w ++ x)) y)
     (both (through (crossed (a ++ b) (c ++ d) (u ++ v) (w ++ x)) (both (crossed a b u v) (crossed c d w x)))
@@ -73,11 +72,11 @@ module _ (counts : List ℕ) where
   one_definition : (all k : ℕ) (p : Place) (n : ℕ) (e : Expr) (g : Scope) (j : ℕ) (s : Progress)
       → Placed counts s.site (sites (body_of e) g j)
       → Covers s (definition_end all k p (walk counts true (body_of e) (nodes_from (head_count e)
-          (meeting (over_arity (place_of p e) (length (params_of e))) (meeting (over_arity p n) s)))))
-          (((over_arity p n ++ all_in limits_of e)
-          ++ (over_arity (place_of p e) (length (params_of e) + 0) ++ site_limits (sites (body_of e) g j)))
-          ++ (over Nodes most_nodes p (nodes e) ++ fault_if (eqb k most_definitions) p (Limit Definitions all)))
-          (length (sites (body_of e) g j))
+      (meeting (over_arity (place_of p e) (length (params_of e))) (meeting (over_arity p n) s)))))
+      (((over_arity p n ++ all_in limits_of e)
+      ++ (over_arity (place_of p e) (length (params_of e) + 0) ++ site_limits (sites (body_of e) g j)))
+      ++ (over Nodes most_nodes p (nodes e) ++ fault_if (eqb k most_definitions) p (Limit Definitions all)))
+      (length (sites (body_of e) g j))
   one_definition all k p n e g j s h =
       let a = over_arity p n in
       let b = over_arity (place_of p e) (length (params_of e)) in
@@ -121,7 +120,7 @@ module _ (counts : List ℕ) where
       let t = walk_definition counts all k (def p f e) s in
       let v = one_definition all k p f.arity e inner j s (placed_front counts s.site mine others h) in
       let w = walked_module all (k + 1) ds g (i + sites_in (body_of e)) next t
-          (subst (λ n. Placed counts n others) (sym v.site) (placed_back counts s.site mine others h)) in
+      (subst (λ n. Placed counts n others) (sym v.site) (placed_back counts s.site mine others h)) in
       record {
         met = v.met ++ w.met;
         first = w.first ∙ ap (λ o. first_with o w.met) v.first ∙ sym (first_with_both s.first v.met w.met);
@@ -132,7 +131,8 @@ module _ (counts : List ℕ) where
             (name_limits ds) (all_defs limits_of ds)
             (site_limits (own_sites ds g (i + sites_in (body_of e)))) (site_limits others)
             (definition_limits all (k + 1) ds))
-            (equal _ _ (ap (λ l. (((over_arity p f.arity ++ name_limits ds) ++ (all_in limits_of e ++ all_defs limits_of ds))
+            (equal _ _ (ap (λ l. (((over_arity p f.arity ++ name_limits ds)
+            ++ (all_in limits_of e ++ all_defs limits_of ds))
             ++ ((over_arity (place_of p e) (length (params_of e) + 0)
             ++ site_limits (own_sites ds g (i + sites_in (body_of e)))) ++ l))
             ++ ((over Nodes most_nodes p (nodes e) ++ fault_if (eqb k most_definitions) p (Limit Definitions all))
@@ -146,22 +146,22 @@ own_counts ds g i = counts_length (own_sites ds g i) ∙ own_length ds g i
 -- the walk through a whole module, behind what was read with its text
 pub whole : (m : Module) (s : Progress)
     → s.first ≡ first_with (first_with (first_with None (counted_in_text Integer m.wide)) (counted_in_text Atom m.long))
-        (export_limits m.exports)
+    (export_limits m.exports)
     → s.site ≡ def_count m.defs
     → Covers (record { first = None; nodes = 0; site = s.site })
-        (walk_module (capture_counts (module_sites m)) (def_count m.defs) 0 m.defs s) (limit_faults m)
-        (length (inner_sites m.defs (module_scope m.defs 0 []) (def_count m.defs)))
+    (walk_module (capture_counts (module_sites m)) (def_count m.defs) 0 m.defs s) (limit_faults m)
+    (length (inner_sites m.defs (module_scope m.defs 0 []) (def_count m.defs)))
 whole m s e h =
     let g = module_scope m.defs 0 [] in
     let n = def_count m.defs in
     let own = own_sites m.defs g n in
     let inner = inner_sites m.defs g n in
     let placed : Placed (capture_counts (module_sites m)) s.site inner = record {
-          before = capture_counts own;
-          behind = [];
-          is = counts_both own inner ∙ ap (λ l. capture_counts own ++ l) (sym (append-nil (capture_counts inner)));
-          here = own_counts m.defs g n ∙ sym h;
-        } in
+      before = capture_counts own;
+      behind = [];
+      is = counts_both own inner ∙ ap (λ l. capture_counts own ++ l) (sym (append-nil (capture_counts inner)));
+      here = own_counts m.defs g n ∙ sym h;
+    } in
     let v = walked_module (capture_counts (module_sites m)) n 0 m.defs g n n s placed in
     let w = counted_in_text Integer m.wide in
     let a = counted_in_text Atom m.long in

@@ -1,6 +1,6 @@
 -- One way through a module that meets all limits: what the walk of the code does, which only its own contracts cite.
 -- That it finds the first of `limit_faults` is proved.
-use Rattle.std.specs.Prelude.{ℕ, suc, ◌+◌, List, [], ◌++◌, length, Bool, true, false, eqb, ltb, if◌then◌else◌, get_or}
+use Rattle.std.specs.Prelude.{ℕ, ◌+◌, List, length, Bool, true, false, eqb, ltb, if◌then◌else◌, get_or}
 use Rattle.erl_base.specs.declared.ids.Place.{Place}
 use Rattle.erl_base.specs.declared.refusal.Refusal.{Refusal}
 use Rattle.erl_base.specs.declared.refusal.Kind.TheVariants.{Limit}

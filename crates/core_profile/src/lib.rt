@@ -9,6 +9,7 @@
 //! Names and degrees are judged elsewhere, and nesting with the grammar.
 #![tactic(auto)]
 
+mod limit_walk;
 mod limits;
 mod profile;
 mod progress;

@@ -1,11 +1,10 @@
 -- Degrees that are wanted, and those that are there.
-use Rattle.std.proofs.Common.{◌≡◌, ℕ, List, [], ◌∷◌, ◌++◌, Bool, true, false, not, eqb, Option, Some, None, refl, sym, ap, ap₂, ◌∙◌}
+use Rattle.std.proofs.Common.{◌≡◌, ℕ, [], ◌++◌, true, not, Option, Some, None, refl, sym, ap, ap₂}
 use Rattle.std.proofs.lemmas.Bool.{eq-eqb}
 use Rattle.erl_base.specs.declared.ids.Place.{Place}
 use Rattle.core_form.specs.Core.{Expr, values, var, fun_name, literal, list, tuple, new_map, map_of, binary, fun, let_in, letrec, case, apply, call, primop, do_then, catch, try, receive, Clauses, no_clause, and_clause, clause}
-use Rattle.core_form.specs.Walks.{literal_name, expr_count}
 use Rattle.erl_base.specs.declared.refusal.ScopeFault.TheVariants.{WrongDegree}
-use Rattle.core_scope.specs.Degrees.{scope_fault, first_fixed, degree, clauses_degree, agrees_with, leaf_needs, needs, clauses_need, ItsOwnDegree, EveryDegree}
+use Rattle.core_scope.specs.Degrees.{scope_fault, first_fixed, degree, clauses_degree, agrees_with, leaf_needs, needs, clauses_need, ItsOwnDegree}
 
 agrees_itself : (d : Option ℕ) → agrees_with d d ≡ true
 agrees_itself None = refl

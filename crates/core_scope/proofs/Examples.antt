@@ -1,5 +1,5 @@
 -- Small texts with their faults of scope: computed, row by row of the table. A column stands for a place.
-use Rattle.std.proofs.Common.{◌≡◌, ℕ, List, [], ◌∷◌, length, Bool, true, false, Option, Some, None, pos, codes, refl}
+use Rattle.std.proofs.Common.{◌≡◌, ℕ, List, [], ◌∷◌, false, Some, None, pos, codes, refl}
 use Rattle.erl_base.specs.Names.{Name}
 use Rattle.erl_base.specs.declared.ids.Place.{Place}
 use Rattle.erl_base.specs.declared.ids.FunKey.{FunKey}
@@ -10,8 +10,8 @@ use Rattle.erl_base.specs.declared.refusal.ScopeFault.TheVariants.{UnboundVariab
 use Rattle.erl_term.specs.Term as T
 use Rattle.core_form.specs.declared.tree.Binder.{Binder}
 use Rattle.core_form.specs.declared.module.FunName.{FunName}
-use Rattle.core_form.specs.Core.{Module, Expr, values, var, fun_name, literal, list, tuple, new_map, map_of, binary, fun, let_in, letrec, case, apply, call, primop, do_then, catch, try, receive, Exprs, no_expr, and_expr, no_part, and_part, map_part, no_segment, and_segment, segment, Defs, no_def, and_def, def, Clauses, no_clause, and_clause, clause, Pattern, any, alias, known, list_like, tuple_like, map_like, bits_like, Patterns, no_pattern, and_pattern, no_key, and_key, key_pattern, no_seg, and_seg, seg_pattern}
-use Rattle.core_scope.specs.Degrees.{degree, needs}
+use Rattle.core_form.specs.Core.{Module, Expr, values, var, fun_name, literal, tuple, fun, let_in, letrec, case, apply, call, primop, do_then, catch, try, receive, Exprs, no_expr, and_expr, Defs, no_def, and_def, def, Clauses, no_clause, and_clause, clause, Pattern, any, alias, map_like, bits_like, Patterns, no_pattern, and_pattern, no_key, and_key, key_pattern, no_seg, and_seg, seg_pattern}
+use Rattle.core_scope.specs.Degrees.{degree}
 use Rattle.core_scope.specs.ScopeFaults.{faults_in, scope_faults}
 
 abbrev at : ℕ → Place
@@ -79,7 +79,8 @@ found e = faults_in e [] false
 unbound : found (x 3) ≡ fault 3 UnboundVariable ∷ []
 unbound = refl
 
-let_is_not_known_in_its_value : found (let_in (at 1) (bind 2 (codes "X") ∷ []) (x 3) (x 4)) ≡ fault 3 UnboundVariable ∷ []
+let_is_not_known_in_its_value :
+    found (let_in (at 1) (bind 2 (codes "X") ∷ []) (x 3) (x 4)) ≡ fault 3 UnboundVariable ∷ []
 let_is_not_known_in_its_value = refl
 
 try_variables_each_in_their_part : found (try (at 1) (one 2) (bind 0 (codes "X") ∷ []) (y 3)
@@ -114,7 +115,8 @@ another_arity = refl
 
 -- Doubled variables.
 
-doubled_parameter : found (fun (at 1) (bind 2 (codes "X") ∷ bind 3 (codes "X") ∷ []) (x 4)) ≡ fault 3 DoubledVariable ∷ []
+doubled_parameter :
+    found (fun (at 1) (bind 2 (codes "X") ∷ bind 3 (codes "X") ∷ []) (x 4)) ≡ fault 3 DoubledVariable ∷ []
 doubled_parameter = refl
 
 inner_parameter_hides : found (fun (at 1) (bind 2 (codes "X") ∷ []) (fun (at 3) (bind 4 (codes "X") ∷ []) (x 5))) ≡ []
@@ -258,7 +260,8 @@ function_of_another_module : found (guarded (call (at 1) (atom (codes "lists")) 
     (row (one 2 ∷ one 3 ∷ [])))) ≡ fault 1 GuardForm ∷ []
 function_of_another_module = refl
 
-body_in_a_guard : found (guarded (case (at 1) (one 2) (when_one 3 (only (any_y 4)) (do_then (at 5) (one 6) (one 7)) no_clause)))
+body_in_a_guard :
+    found (guarded (case (at 1) (one 2) (when_one 3 (only (any_y 4)) (do_then (at 5) (one 6) (one 7)) no_clause)))
     ≡ fault 5 GuardForm ∷ []
 body_in_a_guard = refl
 

@@ -1,6 +1,6 @@
 -- How many values an expression has, and where another number of values stands than the one that is wanted (Core Erlang
 -- 1.0.3, value lists). None is every number: what never returns has it.
-use Rattle.std.specs.Prelude.{◌≡◌, ℕ, List, [], ◌∷◌, ◌++◌, Bool, true, false, not, ◌||◌, eqb, Option, Some, None, codes}
+use Rattle.std.specs.Prelude.{◌≡◌, ℕ, List, [], ◌++◌, Bool, true, false, not, ◌||◌, eqb, Option, Some, None, codes}
 use Rattle.erl_base.specs.Names.{Name, same_name}
 use Rattle.erl_base.specs.declared.ids.Place.{Place}
 use Rattle.erl_base.specs.declared.refusal.Refusal.{Refusal}

@@ -1,6 +1,6 @@
 -- The faults of names, degrees and guards in a module (Core Erlang 1.0.3, sections 4 and 5; what a guard may have is
 -- this project's own).
-use Rattle.std.specs.Prelude.{◌≡◌, ℕ, suc, List, [], ◌∷◌, ◌++◌, length, Bool, true, false, not, ◌&&◌, ◌||◌, eqb, Option, Some, None, codes}
+use Rattle.std.specs.Prelude.{ℕ, suc, List, [], ◌∷◌, ◌++◌, length, Bool, true, false, not, ◌&&◌, ◌||◌, eqb, Option, Some, None, codes}
 use Rattle.std.specs.Option.{is_some}
 use Rattle.erl_base.specs.Names.{Name, same_name, is_key}
 use Rattle.erl_base.specs.declared.ids.Place.{Place}
@@ -89,8 +89,8 @@ abbrev mutual
   segs_binders no_seg = []
   segs_binders (and_seg (seg_pattern p q e u k f) ss) = pattern_binders q ++ segs_binders ss
 
--- Unbound keys and sizes. They mean what is outside of the clause, but for a size that is an earlier variable of its own
--- binary.
+-- Unbound keys and sizes. They mean what is outside of the clause, but for a size that is an earlier variable of its
+-- own binary.
 abbrev mutual
   pub pattern_uses : Scope → Pattern → List Refusal
   pattern_uses g (any p x) = []
@@ -156,8 +156,8 @@ is_guard_form (receive p cs t b) = false
 abbrev pub form_fault : Bool → Place → Expr → List Refusal
 form_fault in_guard p e = scope_fault (in_guard && not (is_guard_form e)) p GuardForm
 
--- The faults in an expression, given the scope there, and whether it stands in a guard. All that a guard holds stands in
--- it, the guards and bodies of a `case` too; patterns are free.
+-- The faults in an expression, given the scope there, and whether it stands in a guard. All that a guard holds stands
+-- in it, the guards and bodies of a `case` too; patterns are free.
 abbrev mutual
   pub faults_in : Expr → Scope → Bool → List Refusal
   faults_in (values p es) g b = faults_of_elements es g b

@@ -4,8 +4,8 @@ use Rattle.erl_base.specs.declared.refusal.Refusal.{Refusal}
 use Rattle.erl_base.specs.declared.refusal.Kind.{Kind}
 use Rattle.erl_base.specs.declared.refusal.Kind.TheVariants.{Scope, Profile, Limit}
 use Rattle.erl_base.specs.declared.refusal.ScopeFault.TheVariants.{UnboundVariable, DoubledVariable, WrongDegree, GuardForm}
-use Rattle.erl_base.specs.declared.refusal.Outside.TheVariants.{Float, SegmentType, Native, SegmentForm}
-use Rattle.erl_base.specs.declared.refusal.LimitName.TheVariants.{Integer, Arity, Nodes, Definitions, Receive}
+use Rattle.erl_base.specs.declared.refusal.Outside.TheVariants.{SegmentType, Native, SegmentForm}
+use Rattle.erl_base.specs.declared.refusal.LimitName.TheVariants.{Arity, Nodes, Definitions}
 use Rattle.first_fault.specs.FirstFault.{comes_before, first_with}
 
 abbrev at : ℕ → ℕ → Kind → Refusal
@@ -43,6 +43,7 @@ met_late : first_with None (at 3 5 (Scope GuardForm) ∷ at 2 9 (Scope WrongDegr
     ≡ Some (at 2 9 (Scope UnboundVariable))
 met_late = refl
 
-met_early : first_with None (at 2 9 (Scope UnboundVariable) ∷ at 3 5 (Scope GuardForm) ∷ at 2 9 (Scope WrongDegree) ∷ [])
+met_early : first_with None
+    (at 2 9 (Scope UnboundVariable) ∷ at 3 5 (Scope GuardForm) ∷ at 2 9 (Scope WrongDegree) ∷ [])
     ≡ Some (at 2 9 (Scope UnboundVariable))
 met_early = refl

@@ -1,11 +1,9 @@
 -- The order of faults is total, so a list has one first at most, and keeping the earlier of two finds it.
-use Rattle.std.proofs.Common.{◌≡◌, ◌<◌, ◌⊎◌, inl, inr, ℕ, List, [], ◌∷◌, ◌++◌, length, Bool, true, false, Option, Some, None, refl, sym, ap, ◌∙◌, arith, append_assoc, eqb, ltb, ◌&&◌, ◌||◌, if◌then◌else◌, zero, suc, subst}
+use Rattle.std.proofs.Common.{◌≡◌, inl, inr, ℕ, List, [], ◌∷◌, ◌++◌, length, Bool, true, false, Option, Some, None, refl, sym, ap, ◌∙◌, arith, append_assoc, if◌then◌else◌, zero, suc, subst}
 use Rattle.std.specs.Prelude.{MatchOption}
-use Rattle.std.specs.List.{Contains, All}
-use Rattle.std.proofs.lemmas.Bool.{cases_Bool, lt-ltb, eq-eqb}
+use Rattle.std.proofs.lemmas.Bool.{cases_Bool}
 use Rattle.std.proofs.lemmas.List.{append-nil}
-use Rattle.std.proofs.lemmas.List.Elements.{All-nil, All-cons, All-append, All-weaker, All-push, All-contains, Contains-push, Contains-append_left}
-use Rattle.erl_base.specs.declared.ids.Place.{Place}
+use Rattle.std.proofs.lemmas.List.Elements.{All-nil, All-weaker, All-push, All-contains, Contains-push, Contains-append_left}
 use Rattle.erl_base.specs.declared.refusal.Refusal.{Refusal}
 use Rattle.erl_base.specs.declared.refusal.Kind.{Kind}
 use Rattle.erl_base.specs.declared.refusal.Kind.TheVariants.{TooLarge, NotUtf8, Syntax, Scope, Profile, Limit, AsmSyntax, Script}
@@ -15,7 +13,7 @@ use Rattle.erl_base.specs.declared.refusal.Outside.{Outside}
 use Rattle.erl_base.specs.declared.refusal.Outside.TheVariants.{Float, Primop, FloatFunction, SegmentType, Native, SegmentForm, NotBuilt}
 use Rattle.erl_base.specs.declared.refusal.LimitName.{LimitName}
 use Rattle.erl_base.specs.declared.refusal.LimitName.TheVariants.{Integer, Atom, Arity, Nodes, Definitions, Receive, Nesting}
-use Rattle.first_fault.specs.FirstFault.{kind_rank, rank, is_below, comes_before, IsFirst, FirstIsUnique, FirstIsFound, earlier, first_with, fault_if}
+use Rattle.first_fault.specs.FirstFault.{kind_rank, rank, is_below, comes_before, IsFirst, FirstIsUnique, FirstIsFound, earlier, first_with}
 
 differ : (b : Bool) → b ≡ false → b ≡ true → ⊥
 differ true h k = cc

@@ -1,6 +1,6 @@
 -- Which of the faults of a text is told: the one whose place comes first, and of several at one place the one whose row
 -- comes first in its table (this project's own).
-use Rattle.std.specs.Prelude.{◌≡◌, ℕ, List, [], ◌∷◌, Bool, true, false, not, ◌&&◌, ◌||◌, eqb, ltb, IsTrue, Option, Some, None, if◌then◌else◌, MatchOption}
+use Rattle.std.specs.Prelude.{◌≡◌, ℕ, List, [], ◌∷◌, Bool, true, false, ◌&&◌, ◌||◌, eqb, ltb, Option, Some, None, if◌then◌else◌, MatchOption}
 use Rattle.std.specs.List.{Contains, All}
 use Rattle.erl_base.specs.declared.ids.Place.{Place}
 use Rattle.erl_base.specs.declared.refusal.Refusal.{Refusal}

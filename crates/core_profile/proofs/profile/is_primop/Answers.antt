@@ -1,5 +1,4 @@
-use Rattle.std.proofs.Common.{◌||◌, ◌&&◌, eqb, ap, ◌∙◌, codes}
-use Rattle.erl_base.specs.Names.{same_name}
+use Rattle.std.proofs.Common.{◌||◌, ◌&&◌, eqb, ap, ◌∙◌}
 use Rattle.core_profile.specs.ProfileFaults.{is_primop}
 use Rattle.core_profile.proofs.profile.is_primop.Goals as goal
 

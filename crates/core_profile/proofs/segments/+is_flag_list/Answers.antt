@@ -1,4 +1,4 @@
-use Rattle.std.proofs.Common.{◌&&◌, map, sym, ap, ◌∙◌}
+use Rattle.std.proofs.Common.{◌&&◌, map, sym, ◌∙◌}
 use Rattle.std.specs.List.{list_all}
 use Rattle.erl_term.specs.View.{view}
 use Rattle.core_profile.specs.ProfileFaults.{is_segment_flag, is_flag_list}

@@ -1,8 +1,8 @@
-use Rattle.std.proofs.Common.{sym, ap, ◌∙◌}
+use Rattle.std.proofs.Common.{sym, ◌∙◌}
 use Rattle.core_profile.specs.LimitFaults.{over_arity}
-use Rattle.core_profile.specs.LimitWalk.{meeting, with_nodes}
+use Rattle.core_profile.specs.LimitWalk.{meeting}
 use Rattle.core_profile.proofs.Counts.{expr_count-exprs}
-use Rattle.core_profile.proofs.limits.with_arguments.Goals as goal
+use Rattle.core_profile.proofs.limit_walk.with_arguments.Goals as goal
 
 pub returns : goal.returns
 returns c = c.with_arity.ensures ∙ (λ i. meeting
