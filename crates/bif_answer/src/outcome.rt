@@ -37,7 +37,8 @@ pub fn integer(number: i128) -> BifAnswer<Value>
 /// The number where it has 128 signed bits.
 #[tactic(auto, using(crate::proofs::Fitting::bounded_past))]
 pub fn integer_or_wide(number: Option<i128>) -> BifAnswer<Value>
-    ensures answers { (z : ℤ) → SomeIff number (FitsSigned w128 z) z → answer_view result ≡ bounded (B.value (P.int z)) }
+    ensures answers { (z : ℤ) → SomeIff number (FitsSigned w128 z) z
+        → answer_view result ≡ bounded (B.value (P.int z)) }
     ensures whole { Holds IsWhole result }
 {
     match number {

@@ -66,7 +66,8 @@ fn has_size(value: &Value, size: i128) -> bool
 fn has_tag_and_size(value: &Value, tag: &Value, size: i128) -> bool
     requires value { IsWhole value.now }
     requires tag { IsWhole tag.now }
-    ensures { (a : List ℕ) → view tag.now ≡ W.word a → result ≡ B.has_tag (view value.now) a && B.has_size (view value.now) size }
+    ensures { (a : List ℕ) → view tag.now ≡ W.word a
+        → result ≡ B.has_tag (view value.now) a && B.has_size (view value.now) size }
 {
     if has_tag(value, tag) {
         has_size(value, size)

@@ -64,6 +64,13 @@ fn show_folded(rt: &HostRuntime, bif: Bif, args: &[Term]) -> Result<(), Fail>
     }
 }
 
+#[tactic(auto, unfolding(erl_term::specs::WellFormed::maps_rise))]
+fn own_pid() -> Term
+    ensures { IsWellFormed result }
+{
+    Term::Pid(3)
+}
+
 pub fn show(rt: &HostRuntime, row: &str) -> Result<(), Fail> {
     let alloc = rt.alloc();
     let (name, texts) = row.split_once(" | ").unwrap_or((row, ""));
@@ -76,7 +83,7 @@ pub fn show(rt: &HostRuntime, row: &str) -> Result<(), Fail> {
         return Ok(println!(rt; "    not listed")?);
     };
     if bif.arity() as usize == args.len() {
-        let answered = answer(alloc, bif, &Term::Pid(3), args.as_slice())?;
+        let answered = answer(alloc, bif, &own_pid(), args.as_slice())?;
         show_answer(rt, &answered)?;
     }
     show_folded(rt, bif, args.as_slice())

@@ -10,19 +10,17 @@ mod tokens;
 mod values;
 
 use clock::Clock;
-use std::{env, io};
+use std::env;
+use std::test::Fail;
 
 const USAGE: &str =
     "usage: measure [timed] tokens FILE, measure [timed] term FILE, measure [timed] values FILE";
 
-fn measured(rt: &HostRuntime, subject: &str, clock: &mut Clock, text: &[u8]) -> io::Result<()> {
+fn measured(rt: &HostRuntime, subject: &str, clock: &mut Clock, text: &[u8]) -> Result<(), Fail> {
     match subject {
-        "tokens" => tokens::measure(rt, clock, text),
-        "term" => terms::measure(rt, clock, text),
-        "values" => match values::measure(rt, clock, text) {
-            Ok(()) => Ok(()),
-            Err(_) => Ok(println!(rt; "refused")?),
-        },
+        "tokens" => Ok(tokens::measure(rt, clock, text)?),
+        "term" => Ok(terms::measure(rt, clock, text)?),
+        "values" => values::measure(rt, clock, text),
         _ => {
             println!(rt; "{USAGE}")?;
             Ok(())
@@ -30,7 +28,7 @@ fn measured(rt: &HostRuntime, subject: &str, clock: &mut Clock, text: &[u8]) -> 
     }
 }
 
-fn main(rt: HostRuntime) -> io::Result<()> {
+fn main(rt: HostRuntime) -> Result<(), Fail> {
     let words: Vec<String> = env::args(&rt)?.collect(rt.alloc())?;
     match words.as_slice() {
         [_, subject, file] => {

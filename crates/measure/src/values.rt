@@ -74,10 +74,17 @@ fn sum_answered(alloc: Global, list: &Value) -> Result<Option<i128>, NoMemory>
     Ok(Some(sum))
 }
 
+#[tactic(auto, unfolding(erl_term::specs::WellFormed::maps_rise))]
+fn integer(number: i128) -> Value
+    ensures { IsWhole result }
+{
+    Value::Int(number)
+}
+
 fn added(alloc: Global, sum: i128, number: &Value) -> Result<Option<i128>, NoMemory>
     requires { IsWhole number.now }
 {
-    let args = [Value::Int(sum), number.share()?];
+    let args = [integer(sum), number.share()?];
     match &answer_values(alloc, Bif::Add, number, &args)? {
         BifAnswer::Value(Value::Int(new)) => Ok(Some(*new)),
         BifAnswer::Value(_) | BifAnswer::Raises(_, _) | BifAnswer::Wide => Ok(None),

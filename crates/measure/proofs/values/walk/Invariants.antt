@@ -1,5 +1,5 @@
 use Rattle.shared_term.specs.View.{IsWhole}
 use Rattle.measure.proofs.values.walk.Given as goal
 
-abbrev pub invariant-loop-_ : goal.invariant-loop-_
-invariant-loop-_ l = IsWhole l.at
+abbrev pub invariant-loop : goal.invariant-loop
+invariant-loop l = IsWhole l.at
