@@ -1,9 +1,9 @@
 -- Arguments in a row, and elements of a tuple, as values and as plain terms.
-use Rattle.std.proofs.Common.{◌≡◌, refl, sym, ap, ap₂, ◌∙◌, subst, ℕ, zero, suc, ◌<◌, ◌≤◌, List, [], ◌∷◌, map, length}
-use Rattle.std.proofs.Common.{get_or, Option, Some, None, ℤ, pos, negsuc, Result, false, arith}
+use Rattle.std.proofs.Common.{◌≡◌, refl, sym, ap, ap₂, ◌∙◌, subst, ℕ, suc, ◌<◌, ◌≤◌, List, [], ◌∷◌, map, length}
+use Rattle.std.proofs.Common.{get_or, Option, Some, None, ℤ, pos, Result, false, arith}
 use Rattle.std.specs.Option.{MatchOption}
 use Rattle.std.specs.Prelude.{slice_get, option_map}
-use Rattle.std.proofs.lemmas.Option.{slice_get-map, slice_get_read, slice_get_past}
+use Rattle.std.proofs.lemmas.Option.{slice_get-map, slice_get_read}
 use Rattle.std.proofs.lemmas.List.{length-map}
 use Rattle.erl_base.specs.declared.memory.NoMemory.{NoMemory}
 use Rattle.erl_term.specs.Term as T
@@ -11,7 +11,7 @@ use Rattle.erl_term.specs.Term.{Term}
 use Rattle.bif_table.specs.BuiltinAnswer as B
 use Rattle.bif_table.specs.Builtins as L
 use Rattle.bif_table.specs.Kinds.{is_int}
-use Rattle.bif_answer.specs.Answers.{Answers, bounded, answer_view}
+use Rattle.bif_answer.specs.Answers.{Answers}
 use Rattle.bif_answer.specs.declared.outcome.BifAnswer.{BifAnswer}
 use Rattle.bif_answer.proofs.Plain.{element_there, no_element}
 use Rattle.shared_term.specs.Parts.{elements_of}

@@ -1,5 +1,5 @@
 -- A function other than `self` answers the same in every process; and what a folded answer says.
-use Rattle.std.proofs.Common.{◌≡◌, refl, sym, ap, ◌∙◌, subst, ℕ, List, [], ◌∷◌, length, map, arith}
+use Rattle.std.proofs.Common.{◌≡◌, refl, sym, ◌∙◌, subst, List, [], ◌∷◌, length, map, arith}
 use Rattle.std.proofs.lemmas.List.{length-map}
 use Rattle.erl_term.specs.Term as T
 use Rattle.erl_term.specs.View.{view, class_view}

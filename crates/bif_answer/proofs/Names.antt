@@ -1,5 +1,5 @@
 -- Names and texts: which atoms are truth values.
-use Rattle.std.proofs.Common.{◌≡◌, refl, sym, ap, ap₂, ◌∙◌, subst, List, [], ◌∷◌, ℕ, IsUtf8, Bool, true, false}
+use Rattle.std.proofs.Common.{◌≡◌, refl, sym, ap, ap₂, ◌∙◌, List, [], ◌∷◌, ℕ, IsUtf8, Bool, true, false}
 use Rattle.std.proofs.Common.{◌&&◌, eqb, IsTrue, bytes_eq, ◌↔◌, rules, Some, None, if◌then◌else◌, codes, Option}
 use Rattle.std.specs.Str.{chars}
 use Rattle.std.proofs.lemmas.Str.{encodes-chars}

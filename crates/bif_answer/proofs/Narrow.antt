@@ -1,5 +1,5 @@
 -- Only an integer leaves 128 signed bits: what else an answer holds stood in an argument, or is small.
-use Rattle.std.proofs.Common.{◌≡◌, refl, ℕ, zero, suc, ◌<◌, List, [], ◌∷◌, Bool, true, false, ◌&&◌, IsTrue, Option}
+use Rattle.std.proofs.Common.{refl, ℕ, zero, suc, List, [], ◌∷◌, Bool, true, false, ◌&&◌, IsTrue, Option}
 use Rattle.std.proofs.Common.{Some, None, ℤ, pos, negsuc, codes, if◌then◌else◌, not, ◌+◌, ◌/◌, arith}
 use Rattle.std.specs.List.{All}
 use Rattle.erl_term.proofs.Forms.{left_true, right_true}
@@ -7,7 +7,7 @@ use Rattle.erl_term.specs.Ranges.{is_narrow, all_narrow, pairs_narrow}
 use Rattle.erl_term.specs.Term as T
 use Rattle.erl_term.specs.Term.{Term, Terms, none, more, Pairs, no_pair, pair}
 use Rattle.erl_term.specs.TermOrder.{same_term}
-use Rattle.erl_term.specs.Terms.{truth, tagged, word, value_at}
+use Rattle.erl_term.specs.Terms.{truth, tagged, value_at}
 use Rattle.bif_table.specs.BuiltinAnswer as B
 use Rattle.bif_table.specs.BuiltinAnswer.{Answer, value}
 use Rattle.bif_table.specs.Builtins as L

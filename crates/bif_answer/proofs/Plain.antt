@@ -1,13 +1,13 @@
 -- Parts of plain terms, as the definition of answers has them and as the calls on values give them.
-use Rattle.std.proofs.Common.{◌≡◌, refl, sym, ap, ◌∙◌, subst, ℕ, zero, suc, ◌+◌, ◌/◌, ◌%◌, ◌<◌, ◌≤◌, List, [], ◌∷◌, map}
-use Rattle.std.proofs.Common.{length, Bool, true, false, not, ◌&&◌, eqb, Option, Some, None, ℤ, pos, negsuc, arith}
+use Rattle.std.proofs.Common.{◌≡◌, refl, sym, ap, ◌∙◌, ℕ, zero, suc, ◌/◌, ◌%◌, ◌≤◌, List}
+use Rattle.std.proofs.Common.{length, Bool, true, false, ◌&&◌, eqb, Some, None, ℤ, pos, negsuc, arith}
 use Rattle.std.specs.Prelude.{option_map, slice_get, ◌<ℤ◌}
 use Rattle.std.proofs.lemmas.Int.{ints}
 use Rattle.std.proofs.lemmas.Option.{slice_get_past}
 use Rattle.erl_term.specs.Term as T
 use Rattle.erl_term.specs.Term.{Term, Terms, none, more, Pairs, no_pair, pair}
 use Rattle.erl_term.specs.TermOrder.{count, pair_count, same_term}
-use Rattle.erl_term.specs.Terms.{listed, word, truth, value_at, is_there}
+use Rattle.erl_term.specs.Terms.{listed, word, truth, is_there}
 use Rattle.bif_table.specs.BuiltinAnswer as B
 use Rattle.bif_table.specs.BuiltinAnswer.{Answer}
 use Rattle.bif_table.specs.Kinds as K

@@ -1,13 +1,12 @@
 -- What the reading of an answer says of the plain one.
-use Rattle.std.proofs.Common.{◌≡◌, refl, sym, ap, ◌∙◌, subst, Bool, true, false, if◌then◌else◌, IsFalse, ℤ}
+use Rattle.std.proofs.Common.{◌≡◌, refl, ap, Bool, true, false, ℤ}
 use Rattle.erl_term.specs.Ranges.{is_within_128}
 use Rattle.erl_term.specs.Term as T
 use Rattle.erl_term.specs.Term.{Term}
 use Rattle.erl_term.specs.View.{class_view}
-use Rattle.erl_term.specs.declared.term.Class.{Class}
 use Rattle.bif_table.specs.BuiltinAnswer as B
 use Rattle.bif_table.specs.BuiltinAnswer.{Answer}
-use Rattle.bif_answer.specs.Answers.{Bounded, value, raised, wide, bounded, answer_view, IsWide}
+use Rattle.bif_answer.specs.Answers.{value, raised, wide, bounded, answer_view, IsWide}
 use Rattle.bif_answer.specs.Answers.{IfValue, IfRaises, IfWide}
 use Rattle.bif_answer.specs.declared.outcome.BifAnswer.{BifAnswer}
 use Rattle.bif_answer.specs.declared.outcome.BifAnswer.TheVariants as V

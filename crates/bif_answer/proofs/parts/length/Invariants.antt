@@ -1,4 +1,4 @@
-use Rattle.std.proofs.Common.{◌≡◌, ◌≤◌}
+use Rattle.std.proofs.Common.{◌≡◌}
 use Rattle.bif_table.specs.BuiltinAnswer.{items}
 use Rattle.shared_term.specs.View.{view, IsWhole}
 use Rattle.bif_answer.proofs.Plain.{cells_in}
