@@ -19,7 +19,7 @@ use Rattle.core_texts.proofs.Stacks.{State, state, finished, Result, step}
 use Rattle.core_texts.proofs.Sound.{Good, Sound, Held, IsFinished, Reached, sound_step}
 use Rattle.core_texts.proofs.Complete.{Choice, first_way, second_way}
 use Rattle.core_texts.proofs.Bodies.{body}
-use Rattle.core_texts.proofs.Tracks.{Tracked, start, tracked_start, stepped, tracked_on}
+use Rattle.core_texts.proofs.Tracks.{Tracked, start, tracked_start, stepped, depth_or, tracked_on}
 
 -- a state that these tokens lead to, none of them too deep
 pub record Led (before : List Token) (s : State) : Type 0 where
@@ -92,10 +92,6 @@ no_deeper before t d w r l b (second_way e) h =
 abbrev is_there : Result → Bool
 is_there None = false
 is_there (Some x) = true
-
-abbrev depth_or : ℕ → Result → ℕ
-depth_or d None = d
-depth_or d (Some x) = x.1
 
 refused : (before : List Token) (t : Token) (s : State) → Led before s → step body t s ≡ None
     → BeginsModule (before ++ t ∷ []) → ⊥

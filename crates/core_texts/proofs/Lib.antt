@@ -27,3 +27,4 @@ mod Tracks
 mod OneTree
 mod Answering
 mod Computed
+mod Depths

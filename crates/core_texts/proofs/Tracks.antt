@@ -77,3 +77,7 @@ tracked_on before t s u d l e m i f =
       over = x.more;
       goes = subst (λ z. Goes z x.rest m) (sym (ap (state_or u) (sym e ∙ x.went.is))) x.went.goes;
     }
+
+abbrev pub depth_or : ℕ → Result → ℕ
+depth_or d None = d
+depth_or d (Some x) = x.1

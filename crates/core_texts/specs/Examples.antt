@@ -1,8 +1,9 @@
 -- Texts with the place of their first fault. The line above each says which slip it tells from the grammar.
 use Prim.Native.String.{String}
-use Rattle.std.specs.Prelude.{ℕ, codes}
+use Rattle.std.specs.Prelude.{◌<◌, ◌≤◌, ℕ, List, [], ◌∷◌, codes}
+use Rattle.core_lex.specs.declared.token.Token.{Token}
 use Rattle.core_lex.specs.Tokens.{tokens}
-use Rattle.core_grammar.specs.Texts.{FirstSyntaxFault}
+use Rattle.core_grammar.specs.Texts.{FirstSyntaxFault, IsDeeper}
 
 -- the first fault of a text of one line is at a column
 abbrev pub FaultAt : String → ℕ → Type 0
@@ -79,3 +80,34 @@ pub record FaultExamples : Type 0 where
   pub more_text : FaultAt "module 'm' [] attributes [] end end" 33
   -- and not before
   pub no_end : FaultAt "module 'm' [] attributes []" 28
+
+-- the last of these tokens is this deep in some text, and no less deep in any
+pub record LastDepth (ts : List Token) (d : ℕ) : Type 0 where
+  pub deeper : (most : ℕ) → most < d → IsDeeper most ts
+  pub within : (most : ℕ) → d ≤ most → IsDeeper most ts → ⊥
+
+-- the tokens before the last one
+abbrev pub before_last : List Token → List Token
+before_last [] = []
+before_last (t ∷ []) = []
+before_last (t ∷ u ∷ us) = t ∷ before_last (u ∷ us)
+
+-- a text that breaks off is this deep at its last token
+abbrev pub BrokenAt : String → ℕ → Type 0
+BrokenAt text d = LastDepth (before_last (tokens (codes text))) d
+
+pub record DepthExamples : Type 0 where
+  -- a bracket before a clause counts as the clause's
+  pub clause_bracket : BrokenAt "module 'm' [] attributes [] 'f'/0 = fun () -> case X of (" 5
+  -- what is in it is as deep either way
+  pub in_bracket : BrokenAt "module 'm' [] attributes [] 'f'/0 = fun () -> case X of ( Y" 6
+  -- the bar tells that it is the pattern's
+  pub pattern_bar : BrokenAt "module 'm' [] attributes [] 'f'/0 = fun () -> case X of ( Y -|" 6
+  -- and `when` that it is the clause's
+  pub clause_when : BrokenAt "module 'm' [] attributes [] 'f'/0 = fun () -> case X of ( Y when" 5
+  -- a bracket of a key counts as that of a variable
+  pub key_bracket : BrokenAt "module 'm' [] attributes [] 'f'/0 = fun () -> case X of ~{(" 6
+  -- a variable as a key counts nothing
+  pub variable_key : BrokenAt "module 'm' [] attributes [] 'f'/0 = fun () -> case X of ~{( Y" 6
+  -- and a constant one
+  pub constant_key : BrokenAt "module 'm' [] attributes [] 'f'/0 = fun () -> case X of ~{( 1" 7

@@ -17,7 +17,7 @@ ghost use Rattle.std.specs.Prelude.{List};
 ghost use Rattle.core_lex.specs.declared.token.Token.{Token};
 ghost use Rattle.core_lex.specs.Tokens.{IsClosed};
 ghost use Rattle.core_texts.specs.Answers.{OneTree, OnePlace, OneAnswer, TextAnswer};
-ghost use Rattle.core_texts.specs.Examples.{FaultExamples};
+ghost use Rattle.core_texts.specs.Examples.{FaultExamples, DepthExamples};
 
 /// A text has one tree, places included.
 pub fn a_text_has_one_tree()
@@ -45,4 +45,10 @@ pub fn closed_tokens_have_an_answer()
 #[tactic(auto, using(crate::proofs::Computed::fault_examples))]
 pub fn faults_stand_where_they_may()
     ensures { FaultExamples }
+{}
+
+/// Where a text breaks off its last token is as deep as it is at least.
+#[tactic(auto, using(crate::proofs::Depths::depth_examples))]
+pub fn texts_that_break_off_are_as_deep_as_they_must()
+    ensures { DepthExamples }
 {}
