@@ -1,0 +1,2 @@
+mod Degree
+mod Examples
