@@ -1,0 +1,10 @@
+mod Flags
+mod Texts
+mod TermForms
+mod Counts
+mod Kept
+mod Same
+mod Goes
+mod Walked
+mod WholeModule
+mod Examples

@@ -1,0 +1,13 @@
+use Rattle.std.proofs.Common.{◌||◌, sym, ap, ◌∙◌, codes}
+use Rattle.erl_base.specs.Names.{same_name}
+use Rattle.erl_term.specs.View.{view}
+use Rattle.core_profile.proofs.TermForms.{flag_named}
+use Rattle.core_profile.proofs.segments.is_flag.Goals as goal
+
+pub returns : goal.returns
+returns c =
+    (λ i. c.is_same-signed.ensures i || c.is_same-unsigned.ensures i || c.is_same-big.ensures i
+    || c.is_same-little.ensures i)
+    ∙ ap (λ n. same_name n (codes "signed") || same_name n (codes "unsigned") || same_name n (codes "big")
+    || same_name n (codes "little")) c.atom_name-name.ensures
+    ∙ sym (flag_named (view c.args.term.now))

@@ -1,0 +1,5 @@
+pub mod ProfileFaults
+pub mod ProfileWalk
+pub mod LimitFaults
+pub mod LimitWalk
+pub mod Readings
