@@ -1,8 +1,7 @@
 // Bits of numbers in endless two's complement, and shifts, whose powers are never made where they can not be held.
-ghost use Rattle.std.specs.Prelude.{◌≡◌, ◌<◌, ◌^◌, ◌/◌, ◌*ℤ◌, ◌+◌, pos, negsuc, ℕ, IfOk, FitsSigned};
+ghost use Rattle.std.specs.Prelude.{◌≡◌, ◌<◌, ◌^◌, ◌/◌, ◌*ℤ◌, ◌+◌, pos, negsuc, IfOk, FitsSigned};
 ghost use Rattle.std.specs.Int.{w128};
 ghost use Rattle.std.specs.Option.{SomeIff};
-ghost use Rattle.erl_term.specs.Term as P;
 ghost use Rattle.bif_table.specs.BuiltinAnswer as B;
 ghost use Rattle.bif_table.specs.TwosComplement as C;
 ghost use Rattle.shared_term.specs.View.{view, IsWhole};

@@ -1,4 +1,4 @@
-ghost use Rattle.std.specs.Prelude.{◌≡◌, List, All, IsTrue, length};
+ghost use Rattle.std.specs.Prelude.{List, All, IsTrue};
 ghost use Rattle.erl_term.specs.Term as P;
 ghost use Rattle.erl_term.specs.Ranges.{is_narrow};
 ghost use Rattle.bif_table.specs.BuiltinAnswer as B;

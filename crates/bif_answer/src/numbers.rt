@@ -1,5 +1,5 @@
 // Arithmetic. A number past 128 signed bits is found out before it is made.
-ghost use Rattle.std.specs.Prelude.{◌≡◌, ◌+ℤ◌, ◌-ℤ◌, ◌*ℤ◌, neg_ℤ, pos, nat_abs, IfOk, IsTrue, IsFalse, MatchOption, ◌&&◌};
+ghost use Rattle.std.specs.Prelude.{◌≡◌, ◌+ℤ◌, ◌-ℤ◌, ◌*ℤ◌, neg_ℤ, pos, nat_abs, IfOk, IsFalse, MatchOption, ◌&&◌};
 ghost use Rattle.erl_term.specs.Term as P;
 ghost use Rattle.bif_table.specs.BuiltinAnswer as B;
 ghost use Rattle.bif_table.specs.Kinds.{is_int};

@@ -1,10 +1,9 @@
 // What is answered, and the makers of answers.
-ghost use Rattle.std.specs.Prelude.{◌≡◌, ◌≤◌, ℤ, pos, IfOk, FitsSigned, chars};
+ghost use Rattle.std.specs.Prelude.{◌≡◌, ℤ, IfOk, FitsSigned, chars};
 ghost use Rattle.std.specs.Int.{w128};
 ghost use Rattle.std.specs.Option.{SomeIff};
 ghost use Rattle.erl_term.specs.Term as P;
 ghost use Rattle.erl_term.specs.Terms as W;
-ghost use Rattle.erl_term.specs.View.{class_view};
 ghost use Rattle.bif_table.specs.BuiltinAnswer as B;
 ghost use Rattle.shared_term.specs.View.{view, IsWhole};
 ghost use Rattle.bif_answer.specs.Answers.{Answers, answer_view, bounded, Holds};

@@ -1,12 +1,10 @@
 // Sizes and parts of compound terms, records, and funs of an arity.
-ghost use Rattle.std.specs.Prelude.{◌≡◌, ◌+◌, ◌/◌, ◌<◌, ◌≤◌, ℕ, suc, pos, IfOk, IfSome, MatchOption, IsFalse, Some, option_map};
+ghost use Rattle.std.specs.Prelude.{◌≡◌, ◌+◌, ◌/◌, ◌<◌, ◌≤◌, ℕ, suc, pos, IfOk, MatchOption};
 ghost use Rattle.erl_term.specs.Term as P;
 ghost use Rattle.bif_table.specs.BuiltinAnswer as B;
-ghost use Rattle.bif_table.specs.Kinds as K;
 ghost use Rattle.shared_term.specs.View.{view, IsWhole};
 ghost use Rattle.bif_answer.specs.Answers.{Answers, Holds};
 
-use crate::comparisons::is_same;
 use crate::numbers::int_in;
 use crate::outcome::{Answered, badarg, badkey, badmap, counted, shared, truth};
 use erl_base::NoMemory;

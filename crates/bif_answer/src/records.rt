@@ -1,6 +1,5 @@
 // Funs of an arity, and records.
 ghost use Rattle.std.specs.Prelude.{◌≡◌, ◌&&◌, ℕ, List, IfOk};
-ghost use Rattle.erl_term.specs.Term as P;
 ghost use Rattle.erl_term.specs.Terms as W;
 ghost use Rattle.bif_table.specs.BuiltinAnswer as B;
 ghost use Rattle.bif_table.specs.Kinds as K;

@@ -7,7 +7,7 @@ ghost use Rattle.bif_table.specs.BuiltinAnswer as B;
 ghost use Rattle.bif_table.specs.Builtins as L;
 ghost use Rattle.bif_table.specs.View.{bif_view};
 ghost use Rattle.shared_term.specs.View as S;
-ghost use Rattle.bif_answer.specs.Answers.{Answers, Holds, IfValue, IfRaises, IfWide, IsWide, IsNoValue};
+ghost use Rattle.bif_answer.specs.Answers.{Holds, IfValue, IfRaises, IfWide, IsWide, IsNoValue};
 
 use crate::outcome::BifAnswer;
 use crate::values::answer_values;
