@@ -71,10 +71,11 @@ abbrev pub is_unit : Term → Bool
 is_unit (T.int (pos n)) = leb 1 n && leb n 256
 is_unit _ = false
 
--- the types of segments
+-- the type of whole numbers
 abbrev pub is_integer_type : Name → Bool
 is_integer_type kind = same_name kind (codes "integer")
 
+-- the type of bits
 abbrev pub is_binary_type : Name → Bool
 is_binary_type kind = same_name kind (codes "binary")
 

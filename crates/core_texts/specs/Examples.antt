@@ -9,6 +9,7 @@ use Rattle.core_grammar.specs.Texts.{FirstSyntaxFault, IsDeeper}
 abbrev pub FaultAt : String → ℕ → Type 0
 FaultAt text n = FirstSyntaxFault (tokens (codes text)) (record { line = 1; column = n })
 
+-- texts with the columns of their first faults
 pub record FaultExamples : Type 0 where
   -- a clause has a guard
   pub no_when : FaultAt "module 'm' [] attributes [] 'f'/0 = fun () -> case X of Y -> Y end end" 59
@@ -96,6 +97,7 @@ before_last (t ∷ u ∷ us) = t ∷ before_last (u ∷ us)
 abbrev pub BrokenAt : String → ℕ → Type 0
 BrokenAt text d = LastDepth (before_last (tokens (codes text))) d
 
+-- texts that break off, with the least depths of their last tokens
 pub record DepthExamples : Type 0 where
   -- a bracket before a clause counts as the clause's
   pub clause_bracket : BrokenAt "module 'm' [] attributes [] 'f'/0 = fun () -> case X of (" 5
