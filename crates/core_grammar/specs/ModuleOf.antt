@@ -85,11 +85,6 @@ abbrev pub character_patterns : Place → List ℕ → C.Patterns
 character_patterns p [] = C.no_pattern
 character_patterns p (c ∷ cs) = C.and_pattern (C.known p (T.int (pos c))) (character_patterns p cs)
 
--- the value that a segment of a pattern matches: a variable or an integer
-abbrev pub segment_pattern : Place → Name → Option T.Term → C.Pattern
-segment_pattern p x None = C.any p x
-segment_pattern p x (Some t) = C.known p t
-
 abbrev mutual
   -- the expression that is written; an alias is none
   pub expr_of : Tree → C.Expr
