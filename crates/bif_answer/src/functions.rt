@@ -1,16 +1,19 @@
 // Each listed function by the number of its arguments.
 ghost use Rattle.std.specs.Prelude.{◌≡◌, IfOk};
+ghost use Rattle.erl_term.specs.Terms as W;
 ghost use Rattle.erl_term.specs.View.{class_view};
 ghost use Rattle.bif_table.specs.BuiltinAnswer as B;
 ghost use Rattle.bif_table.specs.Builtins.{arity_of};
-ghost use Rattle.bif_table.specs.View.{bif_view};
+ghost use Rattle.bif_table.specs.TermTests.{type_holds};
+ghost use Rattle.bif_table.specs.View.{bif_view, type_view};
 ghost use Rattle.shared_term.specs.View.{view, IsWhole};
 ghost use Rattle.bif_answer.specs.Answers.{Answers, Holds};
 
 use crate::comparisons::{both, either, is_below, is_same, negation, one_alone};
+use crate::kinds::is_of_type;
 use crate::outcome::{Answered, BifAnswer, truth};
-use crate::{bits, kinds, numbers, parts, records};
-use bif_table::Bif;
+use crate::{bits, numbers, parts, records};
+use bif_table::{Bif, TypeTest};
 use erl_term::Class;
 use shared_term::Value;
 use std::alloc::Global;
@@ -30,19 +33,19 @@ pub fn of_one(alloc: Global, bif: Bif, a: &Value) -> Answered
         Bif::Abs => numbers::abs(alloc, a),
         Bif::Round | Bif::Trunc | Bif::Ceil | Bif::Floor => numbers::rounded(alloc, a),
         Bif::Not => negation(alloc, a),
-        Bif::IsAtom => truth(alloc, kinds::is_atom(a)),
-        Bif::IsBinary => truth(alloc, kinds::is_bytes(a)),
-        Bif::IsBitstring => truth(alloc, kinds::is_bits(a)),
-        Bif::IsBoolean => truth(alloc, kinds::is_truth(a)),
+        Bif::IsAtom => typed(alloc, TypeTest::IsAtom, a),
+        Bif::IsBinary => typed(alloc, TypeTest::IsBinary, a),
+        Bif::IsBitstring => typed(alloc, TypeTest::IsBitstr, a),
+        Bif::IsBoolean => typed(alloc, TypeTest::IsBoolean, a),
         Bif::IsFloat => truth(alloc, false),
-        Bif::IsFunction => truth(alloc, kinds::is_fun(a)),
-        Bif::IsInteger | Bif::IsNumber => truth(alloc, kinds::is_int(a)),
-        Bif::IsList => truth(alloc, kinds::is_list(a)),
-        Bif::IsMap => truth(alloc, kinds::is_map(a)),
-        Bif::IsPid => truth(alloc, kinds::is_pid(a)),
-        Bif::IsPort => truth(alloc, kinds::is_port(a)),
-        Bif::IsReference => truth(alloc, kinds::is_reference(a)),
-        Bif::IsTuple => truth(alloc, kinds::is_tuple(a)),
+        Bif::IsFunction => typed(alloc, TypeTest::IsFunction, a),
+        Bif::IsInteger | Bif::IsNumber => typed(alloc, TypeTest::IsInteger, a),
+        Bif::IsList => typed(alloc, TypeTest::IsList, a),
+        Bif::IsMap => typed(alloc, TypeTest::IsMap, a),
+        Bif::IsPid => typed(alloc, TypeTest::IsPid, a),
+        Bif::IsPort => typed(alloc, TypeTest::IsPort, a),
+        Bif::IsReference => typed(alloc, TypeTest::IsReference, a),
+        Bif::IsTuple => typed(alloc, TypeTest::IsTuple, a),
         Bif::TupleSize => parts::tuple_size(alloc, a),
         Bif::Size => parts::size(alloc, a),
         Bif::ByteSize => parts::byte_size(alloc, a),
@@ -110,6 +113,15 @@ pub fn of_three(alloc: Global, bif: Bif, a: &Value, b: &Value, c: &Value) -> Ans
         Bif::IsRecord3 => records::is_record_of(alloc, a, b, c),
         _ => unreachable!(),
     }
+}
+
+/// Whether a value is of a type.
+fn typed(alloc: Global, test: TypeTest, value: &Value) -> Answered
+    requires { IsWhole value.now }
+    ensures answers { Answers result (B.value (W.truth (type_holds (type_view test) (view value.now)))) }
+    ensures whole { IfOk result (Holds IsWhole) }
+{
+    truth(alloc, is_of_type(test, value))
 }
 
 /// A raise whose reason is held elsewhere too.

@@ -7,9 +7,10 @@ ghost use Rattle.shared_term.specs.View.{view, IsWhole};
 ghost use Rattle.bif_answer.specs.Answers.{Answers, Holds};
 
 use crate::comparisons::is_same;
-use crate::kinds::is_atom;
+use crate::kinds::is_of_type;
 use crate::numbers::int_in;
 use crate::outcome::{Answered, badarg, truth};
+use bif_table::TypeTest;
 use shared_term::Value;
 use std::alloc::Global;
 
@@ -83,7 +84,7 @@ pub fn is_record(alloc: Global, value: &Value, tag: &Value) -> Answered
     ensures answers { Answers result (B.is_record (view value.now) (view tag.now)) }
     ensures whole { IfOk result (Holds IsWhole) }
 {
-    if is_atom(tag) {
+    if is_of_type(TypeTest::IsAtom, tag) {
         truth(alloc, has_tag(value, tag))
     } else {
         badarg(alloc)
@@ -99,7 +100,7 @@ pub fn is_record_of(alloc: Global, value: &Value, tag: &Value, size: &Value) -> 
     ensures whole { IfOk result (Holds IsWhole) }
 {
     match int_in(size) {
-        Some(size) if is_atom(tag) => { truth(alloc, has_tag_and_size(value, tag, size)) }
+        Some(size) if is_of_type(TypeTest::IsAtom, tag) => { truth(alloc, has_tag_and_size(value, tag, size)) }
         Some(_) | None => badarg(alloc),
     }
 }

@@ -1,6 +1,6 @@
 // A row is the words of a call, and behind bars what its store knows: `file NAME DATA` and `text NAME TEXT` are files,
 // `room NAME NUMBER` is a name with room for so many bytes. Shown are the code, the notes, what went out, the files.
-use crate::row::bytes_of;
+use case_rows::bytes_of;
 use erlc_cli::run;
 use std::fs;
 use std::test::Fail;

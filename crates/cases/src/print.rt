@@ -1,6 +1,6 @@
 // A row is the text of a module, and what is shown is the assembly text that it is compiled to, or the refusal.
-use crate::row::bytes_of;
 use asm_text::print;
+use case_rows::bytes_of;
 use erl_base::Fault;
 use pass_line::compile;
 use std::test::Fail;

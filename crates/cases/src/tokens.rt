@@ -1,6 +1,6 @@
 // A row is a text, and what is shown is its tokens, each with its place and its bytes, or the place where it is no
 // text.
-use crate::row::bytes_of;
+use case_rows::bytes_of;
 use core_lex::{LONG_SYMBOLS, SHORT_SYMBOLS, Symbol, Token, TokenKind, WORDS, Word, lex};
 use erl_base::Fault;
 use std::io;

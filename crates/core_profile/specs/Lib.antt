@@ -2,4 +2,6 @@ pub mod ProfileFaults
 pub mod ProfileWalk
 pub mod LimitFaults
 pub mod LimitWalk
+pub mod Counted
 pub mod Readings
+pub mod LawfulText

@@ -9,6 +9,8 @@
 //! Names and degrees are judged elsewhere, and nesting with the grammar.
 #![tactic(auto)]
 
+mod counts;
+mod laws;
 mod limit_walk;
 mod limits;
 mod profile;
@@ -16,5 +18,6 @@ mod progress;
 mod segments;
 mod words;
 
-pub use limits::check_limits_by;
+pub use laws::a_lawful_text_has_one_module;
+pub use limits::{check_limits, check_limits_by};
 pub use profile::check_profile;

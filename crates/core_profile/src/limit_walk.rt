@@ -3,9 +3,11 @@ ghost use Rattle.std.specs.Prelude.{◌≡◌, ◌≤◌, ◌+◌, ◌∷◌, []
 ghost use Rattle.core_form.specs.View.{view, part_view, segment_view, def_view, clause_view, pattern_view, exprs, parts, segments, defs, clauses, patterns, keys, segs};
 ghost use Rattle.core_form.specs.Walks.{expr_count};
 ghost use Rattle.core_profile.specs.Readings.{key_view, seg_view};
+ghost use Rattle.core_profile.specs.Counted.{counted};
 ghost use Rattle.core_profile.specs.LimitFaults.{over_arity};
 ghost use Rattle.core_profile.specs.LimitWalk.{walk, walk_exprs, walk_parts, walk_segments, walk_def, walk_defs, walk_clauses, walk_pattern, walk_patterns, walk_keys, walk_segs, function_if, function_unless, with_nodes, meeting};
 
+use crate::counts::Counts;
 use crate::progress::{InReceive, Progress, plus};
 use core_form::{
     Clause, Def, Expr, ExprForm, KeyPattern, MapPart, Pattern, PatternForm, SegPattern, Segment,
@@ -13,8 +15,8 @@ use core_form::{
 use erl_base::{Boxed, Place};
 
 #[cycle(walk)]
-pub fn walk_expr(expr: &Expr, counts: &[u64], told: bool, progress: Progress) -> Progress
-    ensures { result ≡ walk counts.now told (view expr.now) progress }
+pub fn walk_expr(expr: &Expr, counts: Counts, told: bool, progress: Progress) -> Progress
+    ensures { result ≡ walk (counted counts) told (view expr.now) progress }
 {
     let place = expr.place;
     match &expr.form {
@@ -97,9 +99,9 @@ pub fn walk_expr(expr: &Expr, counts: &[u64], told: bool, progress: Progress) ->
     }
 }
 
-fn walk_fun(place: Place, params: usize, counts: &[u64], told: bool, progress: Progress) -> Progress
+fn walk_fun(place: Place, params: usize, counts: Counts, told: bool, progress: Progress) -> Progress
     requires { params ≤ 4294967295 }
-    ensures { result ≡ function_if counts.now told place params (with_nodes (1 + params) progress) }
+    ensures { result ≡ function_if (counted counts) told place params (with_nodes (1 + params) progress) }
 {
     progress
         .with_nodes(1 + params as u64)
@@ -110,11 +112,11 @@ fn walk_fun(place: Place, params: usize, counts: &[u64], told: bool, progress: P
 fn function_unless(
     right: &Expr,
     place: Place,
-    counts: &[u64],
+    counts: Counts,
     told: bool,
     progress: Progress,
 ) -> Progress
-    ensures { result ≡ function_unless counts.now told place (view right.now) progress }
+    ensures { result ≡ function_unless (counted counts) told place (view right.now) progress }
 {
     if let ExprForm::Fun(_, _) = &right.form {
         return progress;
@@ -130,15 +132,15 @@ fn with_arguments(place: Place, arguments: &[Expr], progress: Progress) -> Progr
 }
 
 #[cycle(walk)]
-fn walk_boxed(expr: &Boxed<Expr>, counts: &[u64], told: bool, progress: Progress) -> Progress
-    ensures { result ≡ walk counts.now told (view expr.now) progress }
+fn walk_boxed(expr: &Boxed<Expr>, counts: Counts, told: bool, progress: Progress) -> Progress
+    ensures { result ≡ walk (counted counts) told (view expr.now) progress }
 {
     walk_expr(expr.get(), counts, told, progress)
 }
 
 #[cycle(walk)]
-fn walk_exprs(items: &[Expr], counts: &[u64], told: bool, progress: Progress) -> Progress
-    ensures { result ≡ walk_exprs counts.now told (exprs (map view items.now)) progress }
+fn walk_exprs(items: &[Expr], counts: Counts, told: bool, progress: Progress) -> Progress
+    ensures { result ≡ walk_exprs (counted counts) told (exprs (map view items.now)) progress }
 {
     let mut progress = progress;
     for item in items {
@@ -148,16 +150,16 @@ fn walk_exprs(items: &[Expr], counts: &[u64], told: bool, progress: Progress) ->
 }
 
 #[cycle(walk)]
-fn walk_part(part: &MapPart, counts: &[u64], told: bool, progress: Progress) -> Progress
-    ensures { result ≡ walk_parts counts.now told (parts (part_view part.now ∷ [])) progress }
+fn walk_part(part: &MapPart, counts: Counts, told: bool, progress: Progress) -> Progress
+    ensures { result ≡ walk_parts (counted counts) told (parts (part_view part.now ∷ [])) progress }
 {
     let progress = walk_expr(&part.key, counts, told, progress);
     walk_expr(&part.value, counts, told, progress)
 }
 
 #[cycle(walk)]
-fn walk_parts(items: &[MapPart], counts: &[u64], told: bool, progress: Progress) -> Progress
-    ensures { result ≡ walk_parts counts.now told (parts (map part_view items.now)) progress }
+fn walk_parts(items: &[MapPart], counts: Counts, told: bool, progress: Progress) -> Progress
+    ensures { result ≡ walk_parts (counted counts) told (parts (map part_view items.now)) progress }
 {
     let mut progress = progress;
     for item in items {
@@ -167,16 +169,16 @@ fn walk_parts(items: &[MapPart], counts: &[u64], told: bool, progress: Progress)
 }
 
 #[cycle(walk)]
-fn walk_segment(segment: &Segment, counts: &[u64], told: bool, progress: Progress) -> Progress
-    ensures { result ≡ walk_segments counts.now told (segments (segment_view segment.now ∷ [])) progress }
+fn walk_segment(segment: &Segment, counts: Counts, told: bool, progress: Progress) -> Progress
+    ensures { result ≡ walk_segments (counted counts) told (segments (segment_view segment.now ∷ [])) progress }
 {
     let progress = walk_expr(&segment.value, counts, told, progress.with_nodes(1));
     walk_expr(&segment.size, counts, told, progress)
 }
 
 #[cycle(walk)]
-fn walk_segments(items: &[Segment], counts: &[u64], told: bool, progress: Progress) -> Progress
-    ensures { result ≡ walk_segments counts.now told (segments (map segment_view items.now)) progress }
+fn walk_segments(items: &[Segment], counts: Counts, told: bool, progress: Progress) -> Progress
+    ensures { result ≡ walk_segments (counted counts) told (segments (map segment_view items.now)) progress }
 {
     let mut progress = progress;
     for item in items {
@@ -186,8 +188,8 @@ fn walk_segments(items: &[Segment], counts: &[u64], told: bool, progress: Progre
 }
 
 #[cycle(walk)]
-fn walk_def(def: &Def, counts: &[u64], told: bool, progress: Progress) -> Progress
-    ensures { result ≡ walk_def counts.now told (def_view def.now) progress }
+fn walk_def(def: &Def, counts: Counts, told: bool, progress: Progress) -> Progress
+    ensures { result ≡ walk_def (counted counts) told (def_view def.now) progress }
 {
     let progress = progress.with_arity(def.place, def.key.arity as usize);
     let progress = function_unless(&def.fun, def.place, counts, told, progress);
@@ -195,8 +197,8 @@ fn walk_def(def: &Def, counts: &[u64], told: bool, progress: Progress) -> Progre
 }
 
 #[cycle(walk)]
-fn walk_defs(items: &[Def], counts: &[u64], told: bool, progress: Progress) -> Progress
-    ensures { result ≡ walk_defs counts.now told (defs (map def_view items.now)) progress }
+fn walk_defs(items: &[Def], counts: Counts, told: bool, progress: Progress) -> Progress
+    ensures { result ≡ walk_defs (counted counts) told (defs (map def_view items.now)) progress }
 {
     let mut progress = progress;
     for item in items {
@@ -206,8 +208,8 @@ fn walk_defs(items: &[Def], counts: &[u64], told: bool, progress: Progress) -> P
 }
 
 #[cycle(walk)]
-fn walk_clause(clause: &Clause, counts: &[u64], told: bool, inside: InReceive) -> InReceive
-    ensures { result ≡ walk_clauses counts.now told (clauses (clause_view clause.now ∷ [])) inside }
+fn walk_clause(clause: &Clause, counts: Counts, told: bool, inside: InReceive) -> InReceive
+    ensures { result ≡ walk_clauses (counted counts) told (clauses (clause_view clause.now ∷ [])) inside }
 {
     let before = inside.progress.nodes;
     let head = walk_patterns(
@@ -225,8 +227,8 @@ fn walk_clause(clause: &Clause, counts: &[u64], told: bool, inside: InReceive) -
 }
 
 #[cycle(walk)]
-fn walk_clauses(items: &[Clause], counts: &[u64], told: bool, inside: InReceive) -> InReceive
-    ensures { result ≡ walk_clauses counts.now told (clauses (map clause_view items.now)) inside }
+fn walk_clauses(items: &[Clause], counts: Counts, told: bool, inside: InReceive) -> InReceive
+    ensures { result ≡ walk_clauses (counted counts) told (clauses (map clause_view items.now)) inside }
 {
     let mut inside = inside;
     for item in items {
@@ -236,8 +238,8 @@ fn walk_clauses(items: &[Clause], counts: &[u64], told: bool, inside: InReceive)
 }
 
 #[cycle(walk)]
-fn walk_pattern(pattern: &Pattern, counts: &[u64], progress: Progress) -> Progress
-    ensures { result ≡ walk_pattern counts.now (pattern_view pattern.now) progress }
+fn walk_pattern(pattern: &Pattern, counts: Counts, progress: Progress) -> Progress
+    ensures { result ≡ walk_pattern (counted counts) (pattern_view pattern.now) progress }
 {
     let progress = progress.with_nodes(1);
     match &pattern.form {
@@ -255,15 +257,15 @@ fn walk_pattern(pattern: &Pattern, counts: &[u64], progress: Progress) -> Progre
 }
 
 #[cycle(walk)]
-fn walk_boxed_pattern(pattern: &Boxed<Pattern>, counts: &[u64], progress: Progress) -> Progress
-    ensures { result ≡ walk_pattern counts.now (pattern_view pattern.now) progress }
+fn walk_boxed_pattern(pattern: &Boxed<Pattern>, counts: Counts, progress: Progress) -> Progress
+    ensures { result ≡ walk_pattern (counted counts) (pattern_view pattern.now) progress }
 {
     walk_pattern(pattern.get(), counts, progress)
 }
 
 #[cycle(walk)]
-fn walk_patterns(items: &[Pattern], counts: &[u64], progress: Progress) -> Progress
-    ensures { result ≡ walk_patterns counts.now (patterns (map pattern_view items.now)) progress }
+fn walk_patterns(items: &[Pattern], counts: Counts, progress: Progress) -> Progress
+    ensures { result ≡ walk_patterns (counted counts) (patterns (map pattern_view items.now)) progress }
 {
     let mut progress = progress;
     for item in items {
@@ -273,16 +275,16 @@ fn walk_patterns(items: &[Pattern], counts: &[u64], progress: Progress) -> Progr
 }
 
 #[cycle(walk)]
-fn walk_key(key: &KeyPattern, counts: &[u64], progress: Progress) -> Progress
-    ensures { result ≡ walk_keys counts.now (keys (key_view key.now ∷ [])) progress }
+fn walk_key(key: &KeyPattern, counts: Counts, progress: Progress) -> Progress
+    ensures { result ≡ walk_keys (counted counts) (keys (key_view key.now ∷ [])) progress }
 {
     let progress = walk_expr(&key.key, counts, false, progress);
     walk_pattern(&key.pattern, counts, progress)
 }
 
 #[cycle(walk)]
-fn walk_keys(items: &[KeyPattern], counts: &[u64], progress: Progress) -> Progress
-    ensures { result ≡ walk_keys counts.now (keys (map key_view items.now)) progress }
+fn walk_keys(items: &[KeyPattern], counts: Counts, progress: Progress) -> Progress
+    ensures { result ≡ walk_keys (counted counts) (keys (map key_view items.now)) progress }
 {
     let mut progress = progress;
     for item in items {
@@ -292,16 +294,16 @@ fn walk_keys(items: &[KeyPattern], counts: &[u64], progress: Progress) -> Progre
 }
 
 #[cycle(walk)]
-fn walk_seg(segment: &SegPattern, counts: &[u64], progress: Progress) -> Progress
-    ensures { result ≡ walk_segs counts.now (segs (seg_view segment.now ∷ [])) progress }
+fn walk_seg(segment: &SegPattern, counts: Counts, progress: Progress) -> Progress
+    ensures { result ≡ walk_segs (counted counts) (segs (seg_view segment.now ∷ [])) progress }
 {
     let progress = walk_pattern(&segment.value, counts, progress.with_nodes(1));
     walk_expr(&segment.size, counts, false, progress)
 }
 
 #[cycle(walk)]
-fn walk_segs(items: &[SegPattern], counts: &[u64], progress: Progress) -> Progress
-    ensures { result ≡ walk_segs counts.now (segs (map seg_view items.now)) progress }
+fn walk_segs(items: &[SegPattern], counts: Counts, progress: Progress) -> Progress
+    ensures { result ≡ walk_segs (counted counts) (segs (map seg_view items.now)) progress }
 {
     let mut progress = progress;
     for item in items {

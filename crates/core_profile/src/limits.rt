@@ -3,13 +3,16 @@ ghost use Rattle.std.specs.Prelude.{◌≡◌, ◌≤◌, [], map, length, None,
 ghost use Rattle.core_form.specs.Scope.{params_of, body_of};
 ghost use Rattle.core_form.specs.Sites.{module_sites, place_of};
 ghost use Rattle.core_form.specs.View.{view, def_view, module_view, defs};
+ghost use Rattle.core_profile.specs.Counted.{counted};
 ghost use Rattle.core_profile.specs.LimitFaults.{limit_faults, IsFirstLimitFault, capture_counts, counted_in_text, export_limits};
 ghost use Rattle.core_profile.specs.LimitWalk.{walk_module, walk_definition, definition_end, head_count};
+ghost use Rattle.core_sites.specs.Shown.{shown};
 ghost use Rattle.first_fault.specs.FirstFault.{first_with};
 
+use crate::counts::Counts;
 use crate::limit_walk::walk_expr;
 use crate::progress::{Progress, keep_arity, keep_over};
-use core_form::{Def, Expr, ExprForm, FunName, Module};
+use core_form::{Def, Expr, ExprForm, FunName, Module, SiteList};
 use erl_base::{Kind, LimitName, Place, Refusal};
 use first_fault::{answer, keep_if};
 
@@ -82,9 +85,9 @@ fn fun_place(place: Place, right: &Expr) -> Place
     place
 }
 
-fn definition(def: &Def, counts: &[u64], standing: Standing, progress: Progress) -> Progress
+fn definition(def: &Def, counts: Counts, standing: Standing, progress: Progress) -> Progress
     requires { standing.all ≤ 4294967295 }
-    ensures { result ≡ walk_definition counts.now standing.all standing.index (def_view def.now) progress }
+    ensures { result ≡ walk_definition (counted counts) standing.all standing.index (def_view def.now) progress }
 {
     let place = def.place;
     let right = &def.fun;
@@ -95,9 +98,9 @@ fn definition(def: &Def, counts: &[u64], standing: Standing, progress: Progress)
     definition_end(standing, place, progress)
 }
 
-fn definitions(items: &[Def], counts: &[u64], progress: Progress) -> Progress
+fn definitions(items: &[Def], counts: Counts, progress: Progress) -> Progress
     requires { length items.now ≤ 4294967295 }
-    ensures { result ≡ walk_module counts.now (length items.now) 0 (defs (map def_view items.now)) progress }
+    ensures { result ≡ walk_module (counted counts) (length items.now) 0 (defs (map def_view items.now)) progress }
 {
     let all = items.len();
     let mut progress = progress;
@@ -130,10 +133,26 @@ fn keep_exports(first: Option<Refusal>, names: &[FunName]) -> Option<Refusal>
     first
 }
 
-/// Refuses what there is no room for: the first limit that is passed. The counts are how many variables each function
-/// captures, in the order of sites.
+/// Refuses what there is no room for: the first limit that is passed. The sites are the module's own.
+pub fn check_limits(tree: &Module, sites: &SiteList) -> Result<(), Refusal>
+    requires own { sites.now ≡ map shown (module_sites (module_view tree.now)) }
+    ensures ok { IfOk result (λ _. limit_faults (module_view tree.now) ≡ []) }
+    ensures refused { IfErr result (IsFirstLimitFault (module_view tree.now)) }
+{
+    limits_by(tree, Counts::Sites(sites.as_slice()))
+}
+
+/// The same, told how many variables each function captures, in the order of sites.
 pub fn check_limits_by(tree: &Module, counts: &[u64]) -> Result<(), Refusal>
     requires own { counts.now ≡ capture_counts (module_sites (module_view tree.now)) }
+    ensures ok { IfOk result (λ _. limit_faults (module_view tree.now) ≡ []) }
+    ensures refused { IfErr result (IsFirstLimitFault (module_view tree.now)) }
+{
+    limits_by(tree, Counts::Numbers(counts))
+}
+
+fn limits_by(tree: &Module, counts: Counts) -> Result<(), Refusal>
+    requires own { counted counts ≡ capture_counts (module_sites (module_view tree.now)) }
     ensures ok { IfOk result (λ _. limit_faults (module_view tree.now) ≡ []) }
     ensures refused { IfErr result (IsFirstLimitFault (module_view tree.now)) }
 {

@@ -1,9 +1,11 @@
 // How far the walk for limits is.
 ghost use Rattle.std.specs.Prelude.{◌≡◌, ◌+◌, length};
+ghost use Rattle.core_profile.specs.Counted.{counted};
 ghost use Rattle.core_profile.specs.LimitFaults.{capped, over, over_arity};
 ghost use Rattle.first_fault.specs.FirstFault.{first_with};
 ghost use Rattle.core_profile.specs.LimitWalk.{meeting, with_nodes, nodes_from, function_at, function_if, receive_end};
 
+use crate::counts::Counts;
 use erl_base::{Kind, LimitName, Place, Refusal};
 use first_fault::keep_if;
 
@@ -86,25 +88,25 @@ impl Progress {
         }
     }
 
-    fn function_at(self, place: Place, params: usize, counts: &[u64]) -> Progress
-        ensures { result ≡ function_at counts.now place params self }
+    fn function_at(self, place: Place, params: usize, counts: Counts) -> Progress
+        ensures { result ≡ function_at (counted counts) place params self }
     {
-        if self.site >= counts.len() {
-            return Progress {
+        match counts.of(self.site) {
+            None => Progress {
                 first: keep_arity(self.first, place, params as u64),
                 ..self
-            };
-        }
-        Progress {
-            first: keep_arity(self.first, place, plus(params as u64, counts[self.site])),
-            nodes: self.nodes,
-            site: self.site + 1,
+            },
+            Some(count) => Progress {
+                first: keep_arity(self.first, place, plus(params as u64, count)),
+                nodes: self.nodes,
+                site: self.site + 1,
+            },
         }
     }
 
     /// A function with so many parameters, whose `fun` stands here, where functions are told.
-    pub fn function_if(self, told: bool, place: Place, params: usize, counts: &[u64]) -> Progress
-        ensures { result ≡ function_if counts.now told place params self }
+    pub fn function_if(self, told: bool, place: Place, params: usize, counts: Counts) -> Progress
+        ensures { result ≡ function_if (counted counts) told place params self }
     {
         if told {
             return self.function_at(place, params, counts);

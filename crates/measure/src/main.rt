@@ -1,10 +1,12 @@
 //! Measures calls over a file, for `bin/bench`: `measure tokens FILE` tells how many tokens a text has, `measure term
 //! FILE` how many bytes the printed text of a term has, `measure values FILE` how its two copies compare, how many
-//! steps along it found an item, and two sums of its integers. With `timed` in front it tells what each step took, in
-//! microseconds, and what the system says of the process, which has the most memory that it took (`VmHWM`).
+//! steps along it found an item, and two sums of its integers, `measure lists FILE` how many items the lists in a list
+//! have. With `timed` in front it tells what each step took, in microseconds, and what the system says of the process,
+//! which has the most memory that it took (`VmHWM`).
 #![tactic(auto)]
 
 mod clock;
+mod lists;
 mod terms;
 mod tokens;
 mod values;
@@ -13,14 +15,14 @@ use clock::Clock;
 use std::env;
 use std::test::Fail;
 
-const USAGE: &str =
-    "usage: measure [timed] tokens FILE, measure [timed] term FILE, measure [timed] values FILE";
+const USAGE: &str = "usage: measure [timed] SUBJECT FILE, of the subjects tokens, term, values, lists";
 
 fn measured(rt: &HostRuntime, subject: &str, clock: &mut Clock, text: &[u8]) -> Result<(), Fail> {
     match subject {
         "tokens" => Ok(tokens::measure(rt, clock, text)?),
         "term" => Ok(terms::measure(rt, clock, text)?),
         "values" => values::measure(rt, clock, text),
+        "lists" => lists::measure(rt, clock, text),
         _ => {
             println!(rt; "{USAGE}")?;
             Ok(())

@@ -20,6 +20,12 @@ pub fn compare(a: &Value, b: &Value) -> Ordering
     requires second { IsWhole b.now }
     ensures { result ≡ Order.compare (view a.now) (view b.now) }
 {
+    // What most lists hold takes no other way.
+    if let Value::Int(x) = a {
+        if let Value::Int(y) = b {
+            return x.cmp(y);
+        }
+    }
     match rank(a).cmp(&rank(b)) {
         Ordering::Equal => compare_same_kind(a, b),
         unequal => unequal,

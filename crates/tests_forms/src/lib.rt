@@ -1,7 +1,7 @@
 //! Tests of SSA form, of the machine's instructions and of their text: what no clause and no row of a table can show.
 //!
-//! Each call that takes memory gives its value when there is memory; sets are read in their order; three modules have
-//! the texts that stand here.
+//! Each call that takes memory gives its value when there is memory; sets are read in their order; a module has the
+//! text that stands here.
 #![tactic(auto)]
 
 #[cfg(test)]

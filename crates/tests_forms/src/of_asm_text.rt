@@ -1,4 +1,4 @@
-// Of asm_text: three modules have these texts, and characters of one to four bytes these bytes.
+// Of asm_text: a module has this text, and characters of one to four bytes these bytes.
 ghost use Rattle.std.specs.Prelude.{◌≡◌, IfOk, IsTrue, chars, map};
 ghost use Rattle.beam_table.specs.View.{source_view, fun_view, module_view};
 ghost use Rattle.beam_table.specs.ValidModule.{every};
@@ -11,25 +11,6 @@ use erl_base::{Bytes, FunKey, LabelId, List, Name, NoMemory};
 use erl_term::Attributes;
 use std::alloc::Global;
 use std::test::Fail;
-
-const EMPTY: &str = "{module,m}.
-{exports,[]}.
-{attributes,[]}.
-{labels,1}.
-";
-
-const ONE: &str = "{module,one}.
-{exports,[{one,0}]}.
-{attributes,[]}.
-{labels,3}.
-
-{function,one,0,2}.
-  {label,1}.
-    {func_info,{atom,one},{atom,one},0}.
-  {label,2}.
-    {move,{integer,1},{x,0}}.
-    return.
-";
 
 const SOURCES: &str = "{module,m}.
 {exports,[{f,3},{g,255}]}.
@@ -113,23 +94,6 @@ fn module(alloc: Global, text: &str, exports: FunKeys, funs: AsmFuns) -> Result<
     })
 }
 
-fn empty(alloc: Global) -> Result<AsmModule, NoMemory>
-    ensures { IfOk result (λ a. HasText (module_view a)) }
-{
-    module(alloc, "m", List::new(alloc), List::new(alloc))
-}
-
-fn one(alloc: Global) -> Result<AsmModule, NoMemory>
-    ensures { IfOk result (λ a. HasText (module_view a)) }
-{
-    let mut exports: FunKeys = List::new(alloc);
-    exports.push(key(alloc, "one", 0)?)?;
-    let mut funs: AsmFuns = List::new(alloc);
-    let one = key(alloc, "one", 0)?;
-    funs.push(function(alloc, one, 1, 2, Source::Integer(1), Reg::X(0))?)?;
-    module(alloc, "one", exports, funs)
-}
-
 fn sources(alloc: Global) -> Result<AsmModule, NoMemory>
     ensures { IfOk result (λ a. HasText (module_view a)) }
 {
@@ -153,22 +117,6 @@ fn bytes_of(alloc: Global, a: &AsmModule) -> Result<Bytes, NoMemory>
 {
     let text = print(alloc, a)?;
     encoded(alloc, text.as_slice())
-}
-
-#[test]
-fn an_empty_module_has_this_text(rt: HostRuntime) -> Result<(), Fail> {
-    let module = empty(rt.alloc())?;
-    let bytes = bytes_of(rt.alloc(), &module)?;
-    assert!(rt; bytes.as_slice() == EMPTY.as_bytes());
-    Ok(())
-}
-
-#[test]
-fn a_module_of_one_function_has_this_text(rt: HostRuntime) -> Result<(), Fail> {
-    let module = one(rt.alloc())?;
-    let bytes = bytes_of(rt.alloc(), &module)?;
-    assert!(rt; bytes.as_slice() == ONE.as_bytes());
-    Ok(())
 }
 
 #[test]

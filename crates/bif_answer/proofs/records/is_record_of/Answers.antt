@@ -9,6 +9,6 @@ pub returns-in-Some-clause-answers : goal.returns-in-Some-clause-answers
 returns-in-Some-clause-answers c =
     let f : SFits w128 c.in-Some.size = search rules in
     subst (Answers c.truth.result)
-    (sym (recorded_of _ _ _ _ _ _ (sym c.is_atom.ensures ∙ c.if-is_atom.true) c.in-Some.ensures
+    (sym (recorded_of _ _ _ _ _ _ (sym c.is_of_type.ensures ∙ c.if-is_of_type.true) c.in-Some.ensures
     (to_z-of_z w128 c.in-Some.size f) c.has_tag_and_size.ensures))
     c.truth.ensures.answers

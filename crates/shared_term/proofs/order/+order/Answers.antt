@@ -5,10 +5,14 @@ use Rattle.erl_term.specs.TermOrder.{compare}
 use Rattle.shared_term.specs.Comparing.{IsCellWhole}
 use Rattle.shared_term.specs.View.{view, IsWhole, IsPairWhole, AreMapPairs}
 use Rattle.shared_term.specs.declared.value.Value.{the_lemmas}
-use Rattle.shared_term.proofs.Comparing.{cells_step}
+use Rattle.shared_term.proofs.Comparing.{cells_step, of_same}
 use Rattle.shared_term.proofs.Pairs.{cell_whole, map_whole}
 use Rattle.shared_term.proofs.Rows.{tuple_whole, fun_whole}
 use Rattle.shared_term.proofs.order.+order.Goals as goal
+
+pub compare-returns-in-Int-b : goal.compare-returns-in-Int-b
+compare-returns-in-Int-b t c =
+    of_same c.args.a.now c.args.b.now c.cmp.result (search (rules, the_lemmas)) (search (rules, the_lemmas))
 
 pub compare_cells-compare-requires : goal.compare_cells-compare-requires
 compare_cells-compare-requires t c =

@@ -1,0 +1,10 @@
+use Rattle.std.proofs.Common.{[]}
+use Rattle.beam_table.specs.InstructionStep.{step}
+use Rattle.beam_table.specs.MachineRun.{asm_run, start, code_of}
+use Rattle.traced_run.specs.TracedRun.{step_in_range, traced_run}
+use Rattle.traced_run.proofs.Tracing.{is_run}
+use Rattle.traced_run.proofs.a_trace_is_the_run.Goals as goal
+
+pub returns : goal.returns
+unfolding asm_run traced_run
+returns c = λ a f ts s k. is_run step_in_range (step a) k (start s ts (code_of a.funs f)) s.replies []

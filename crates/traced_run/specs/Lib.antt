@@ -1,0 +1,4 @@
+pub mod Traces
+pub mod TraceLaws
+pub mod TracedRun
+pub mod Examples
