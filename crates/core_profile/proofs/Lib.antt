@@ -1,7 +1,7 @@
 mod Flags
 mod Texts
 mod TermForms
-mod Counts
+mod Lengths
 mod Kept
 mod Same
 mod Goes

@@ -1,4 +1,4 @@
-ghost use Rattle.std.specs.Prelude.{◌≡◌, ◌≤◌, ◌<◌, ◌×◌, length, get_or, None, IfSome};
+ghost use Rattle.std.specs.Prelude.{◌≡◌, ◌≤◌, ◌<◌, length, get_or, None, IfSome};
 ghost use Rattle.core_profile.specs.Counted.{counted};
 
 use core_form::Site;
@@ -13,8 +13,8 @@ pub enum Counts<'a> {
 impl<'a> Counts<'a> {
     /// That of this function, where there is one.
     pub fn of(self, site: usize) -> Option<u64>
-        ensures some { IfSome result (λ count. (site < length (counted self)) × (get_or (counted self) site 0 ≡ count)) }
-        ensures none { result ≡ None → length (counted self) ≤ site }
+        ensures some { IfSome result (λ count. (site < length (counted self.entry)) × (get_or (counted self.entry) site 0 ≡ count)) }
+        ensures none { result ≡ None → length (counted self.entry) ≤ site }
     {
         match self {
             Counts::Numbers(counts) => counts.get(site).copied(),

@@ -16,7 +16,7 @@ use erl_base::{Boxed, Place};
 
 #[cycle(walk)]
 pub fn walk_expr(expr: &Expr, counts: Counts, told: bool, progress: Progress) -> Progress
-    ensures { result ≡ walk (counted counts) told (view expr.now) progress }
+    ensures { result ≡ walk (counted counts.entry) told (view expr.now) progress }
 {
     let place = expr.place;
     match &expr.form {
@@ -101,7 +101,7 @@ pub fn walk_expr(expr: &Expr, counts: Counts, told: bool, progress: Progress) ->
 
 fn walk_fun(place: Place, params: usize, counts: Counts, told: bool, progress: Progress) -> Progress
     requires { params ≤ 4294967295 }
-    ensures { result ≡ function_if (counted counts) told place params (with_nodes (1 + params) progress) }
+    ensures { result ≡ function_if (counted counts.entry) told place params (with_nodes (1 + params) progress) }
 {
     progress
         .with_nodes(1 + params as u64)
@@ -116,7 +116,7 @@ fn function_unless(
     told: bool,
     progress: Progress,
 ) -> Progress
-    ensures { result ≡ function_unless (counted counts) told place (view right.now) progress }
+    ensures { result ≡ function_unless (counted counts.entry) told place (view right.now) progress }
 {
     if let ExprForm::Fun(_, _) = &right.form {
         return progress;
@@ -133,14 +133,14 @@ fn with_arguments(place: Place, arguments: &[Expr], progress: Progress) -> Progr
 
 #[cycle(walk)]
 fn walk_boxed(expr: &Boxed<Expr>, counts: Counts, told: bool, progress: Progress) -> Progress
-    ensures { result ≡ walk (counted counts) told (view expr.now) progress }
+    ensures { result ≡ walk (counted counts.entry) told (view expr.now) progress }
 {
     walk_expr(expr.get(), counts, told, progress)
 }
 
 #[cycle(walk)]
 fn walk_exprs(items: &[Expr], counts: Counts, told: bool, progress: Progress) -> Progress
-    ensures { result ≡ walk_exprs (counted counts) told (exprs (map view items.now)) progress }
+    ensures { result ≡ walk_exprs (counted counts.entry) told (exprs (map view items.now)) progress }
 {
     let mut progress = progress;
     for item in items {
@@ -151,7 +151,7 @@ fn walk_exprs(items: &[Expr], counts: Counts, told: bool, progress: Progress) ->
 
 #[cycle(walk)]
 fn walk_part(part: &MapPart, counts: Counts, told: bool, progress: Progress) -> Progress
-    ensures { result ≡ walk_parts (counted counts) told (parts (part_view part.now ∷ [])) progress }
+    ensures { result ≡ walk_parts (counted counts.entry) told (parts (part_view part.now ∷ [])) progress }
 {
     let progress = walk_expr(&part.key, counts, told, progress);
     walk_expr(&part.value, counts, told, progress)
@@ -159,7 +159,7 @@ fn walk_part(part: &MapPart, counts: Counts, told: bool, progress: Progress) -> 
 
 #[cycle(walk)]
 fn walk_parts(items: &[MapPart], counts: Counts, told: bool, progress: Progress) -> Progress
-    ensures { result ≡ walk_parts (counted counts) told (parts (map part_view items.now)) progress }
+    ensures { result ≡ walk_parts (counted counts.entry) told (parts (map part_view items.now)) progress }
 {
     let mut progress = progress;
     for item in items {
@@ -170,7 +170,7 @@ fn walk_parts(items: &[MapPart], counts: Counts, told: bool, progress: Progress)
 
 #[cycle(walk)]
 fn walk_segment(segment: &Segment, counts: Counts, told: bool, progress: Progress) -> Progress
-    ensures { result ≡ walk_segments (counted counts) told (segments (segment_view segment.now ∷ [])) progress }
+    ensures { result ≡ walk_segments (counted counts.entry) told (segments (segment_view segment.now ∷ [])) progress }
 {
     let progress = walk_expr(&segment.value, counts, told, progress.with_nodes(1));
     walk_expr(&segment.size, counts, told, progress)
@@ -178,7 +178,7 @@ fn walk_segment(segment: &Segment, counts: Counts, told: bool, progress: Progres
 
 #[cycle(walk)]
 fn walk_segments(items: &[Segment], counts: Counts, told: bool, progress: Progress) -> Progress
-    ensures { result ≡ walk_segments (counted counts) told (segments (map segment_view items.now)) progress }
+    ensures { result ≡ walk_segments (counted counts.entry) told (segments (map segment_view items.now)) progress }
 {
     let mut progress = progress;
     for item in items {
@@ -189,7 +189,7 @@ fn walk_segments(items: &[Segment], counts: Counts, told: bool, progress: Progre
 
 #[cycle(walk)]
 fn walk_def(def: &Def, counts: Counts, told: bool, progress: Progress) -> Progress
-    ensures { result ≡ walk_def (counted counts) told (def_view def.now) progress }
+    ensures { result ≡ walk_def (counted counts.entry) told (def_view def.now) progress }
 {
     let progress = progress.with_arity(def.place, def.key.arity as usize);
     let progress = function_unless(&def.fun, def.place, counts, told, progress);
@@ -198,7 +198,7 @@ fn walk_def(def: &Def, counts: Counts, told: bool, progress: Progress) -> Progre
 
 #[cycle(walk)]
 fn walk_defs(items: &[Def], counts: Counts, told: bool, progress: Progress) -> Progress
-    ensures { result ≡ walk_defs (counted counts) told (defs (map def_view items.now)) progress }
+    ensures { result ≡ walk_defs (counted counts.entry) told (defs (map def_view items.now)) progress }
 {
     let mut progress = progress;
     for item in items {
@@ -209,7 +209,7 @@ fn walk_defs(items: &[Def], counts: Counts, told: bool, progress: Progress) -> P
 
 #[cycle(walk)]
 fn walk_clause(clause: &Clause, counts: Counts, told: bool, inside: InReceive) -> InReceive
-    ensures { result ≡ walk_clauses (counted counts) told (clauses (clause_view clause.now ∷ [])) inside }
+    ensures { result ≡ walk_clauses (counted counts.entry) told (clauses (clause_view clause.now ∷ [])) inside }
 {
     let before = inside.progress.nodes;
     let head = walk_patterns(
@@ -228,7 +228,7 @@ fn walk_clause(clause: &Clause, counts: Counts, told: bool, inside: InReceive) -
 
 #[cycle(walk)]
 fn walk_clauses(items: &[Clause], counts: Counts, told: bool, inside: InReceive) -> InReceive
-    ensures { result ≡ walk_clauses (counted counts) told (clauses (map clause_view items.now)) inside }
+    ensures { result ≡ walk_clauses (counted counts.entry) told (clauses (map clause_view items.now)) inside }
 {
     let mut inside = inside;
     for item in items {
@@ -239,7 +239,7 @@ fn walk_clauses(items: &[Clause], counts: Counts, told: bool, inside: InReceive)
 
 #[cycle(walk)]
 fn walk_pattern(pattern: &Pattern, counts: Counts, progress: Progress) -> Progress
-    ensures { result ≡ walk_pattern (counted counts) (pattern_view pattern.now) progress }
+    ensures { result ≡ walk_pattern (counted counts.entry) (pattern_view pattern.now) progress }
 {
     let progress = progress.with_nodes(1);
     match &pattern.form {
@@ -258,14 +258,14 @@ fn walk_pattern(pattern: &Pattern, counts: Counts, progress: Progress) -> Progre
 
 #[cycle(walk)]
 fn walk_boxed_pattern(pattern: &Boxed<Pattern>, counts: Counts, progress: Progress) -> Progress
-    ensures { result ≡ walk_pattern (counted counts) (pattern_view pattern.now) progress }
+    ensures { result ≡ walk_pattern (counted counts.entry) (pattern_view pattern.now) progress }
 {
     walk_pattern(pattern.get(), counts, progress)
 }
 
 #[cycle(walk)]
 fn walk_patterns(items: &[Pattern], counts: Counts, progress: Progress) -> Progress
-    ensures { result ≡ walk_patterns (counted counts) (patterns (map pattern_view items.now)) progress }
+    ensures { result ≡ walk_patterns (counted counts.entry) (patterns (map pattern_view items.now)) progress }
 {
     let mut progress = progress;
     for item in items {
@@ -276,7 +276,7 @@ fn walk_patterns(items: &[Pattern], counts: Counts, progress: Progress) -> Progr
 
 #[cycle(walk)]
 fn walk_key(key: &KeyPattern, counts: Counts, progress: Progress) -> Progress
-    ensures { result ≡ walk_keys (counted counts) (keys (key_view key.now ∷ [])) progress }
+    ensures { result ≡ walk_keys (counted counts.entry) (keys (key_view key.now ∷ [])) progress }
 {
     let progress = walk_expr(&key.key, counts, false, progress);
     walk_pattern(&key.pattern, counts, progress)
@@ -284,7 +284,7 @@ fn walk_key(key: &KeyPattern, counts: Counts, progress: Progress) -> Progress
 
 #[cycle(walk)]
 fn walk_keys(items: &[KeyPattern], counts: Counts, progress: Progress) -> Progress
-    ensures { result ≡ walk_keys (counted counts) (keys (map key_view items.now)) progress }
+    ensures { result ≡ walk_keys (counted counts.entry) (keys (map key_view items.now)) progress }
 {
     let mut progress = progress;
     for item in items {
@@ -295,7 +295,7 @@ fn walk_keys(items: &[KeyPattern], counts: Counts, progress: Progress) -> Progre
 
 #[cycle(walk)]
 fn walk_seg(segment: &SegPattern, counts: Counts, progress: Progress) -> Progress
-    ensures { result ≡ walk_segs (counted counts) (segs (seg_view segment.now ∷ [])) progress }
+    ensures { result ≡ walk_segs (counted counts.entry) (segs (seg_view segment.now ∷ [])) progress }
 {
     let progress = walk_pattern(&segment.value, counts, progress.with_nodes(1));
     walk_expr(&segment.size, counts, false, progress)
@@ -303,7 +303,7 @@ fn walk_seg(segment: &SegPattern, counts: Counts, progress: Progress) -> Progres
 
 #[cycle(walk)]
 fn walk_segs(items: &[SegPattern], counts: Counts, progress: Progress) -> Progress
-    ensures { result ≡ walk_segs (counted counts) (segs (map seg_view items.now)) progress }
+    ensures { result ≡ walk_segs (counted counts.entry) (segs (map seg_view items.now)) progress }
 {
     let mut progress = progress;
     for item in items {

@@ -87,7 +87,7 @@ fn fun_place(place: Place, right: &Expr) -> Place
 
 fn definition(def: &Def, counts: Counts, standing: Standing, progress: Progress) -> Progress
     requires { standing.all ≤ 4294967295 }
-    ensures { result ≡ walk_definition (counted counts) standing.all standing.index (def_view def.now) progress }
+    ensures { result ≡ walk_definition (counted counts.entry) standing.all standing.index (def_view def.now) progress }
 {
     let place = def.place;
     let right = &def.fun;
@@ -100,7 +100,7 @@ fn definition(def: &Def, counts: Counts, standing: Standing, progress: Progress)
 
 fn definitions(items: &[Def], counts: Counts, progress: Progress) -> Progress
     requires { length items.now ≤ 4294967295 }
-    ensures { result ≡ walk_module (counted counts) (length items.now) 0 (defs (map def_view items.now)) progress }
+    ensures { result ≡ walk_module (counted counts.entry) (length items.now) 0 (defs (map def_view items.now)) progress }
 {
     let all = items.len();
     let mut progress = progress;

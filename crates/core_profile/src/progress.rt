@@ -89,7 +89,7 @@ impl Progress {
     }
 
     fn function_at(self, place: Place, params: usize, counts: Counts) -> Progress
-        ensures { result ≡ function_at (counted counts) place params self }
+        ensures { result ≡ function_at (counted counts.entry) place params self }
     {
         match counts.of(self.site) {
             None => Progress {
@@ -106,7 +106,7 @@ impl Progress {
 
     /// A function with so many parameters, whose `fun` stands here, where functions are told.
     pub fn function_if(self, told: bool, place: Place, params: usize, counts: Counts) -> Progress
-        ensures { result ≡ function_if (counted counts) told place params self }
+        ensures { result ≡ function_if (counted counts.entry) told place params self }
     {
         if told {
             return self.function_at(place, params, counts);

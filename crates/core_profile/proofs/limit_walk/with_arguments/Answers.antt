@@ -1,7 +1,7 @@
 use Rattle.std.proofs.Common.{sym, ◌∙◌}
 use Rattle.core_profile.specs.LimitFaults.{over_arity}
 use Rattle.core_profile.specs.LimitWalk.{meeting}
-use Rattle.core_profile.proofs.Counts.{expr_count-exprs}
+use Rattle.core_profile.proofs.Lengths.{expr_count-exprs}
 use Rattle.core_profile.proofs.limit_walk.with_arguments.Goals as goal
 
 pub returns : goal.returns

@@ -2,7 +2,7 @@ use Rattle.std.proofs.Common.{◌≡◌, map, sym, ap, ◌∙◌}
 use Rattle.core_form.specs.Sites.{module_sites}
 use Rattle.core_form.specs.View.{module_view}
 use Rattle.core_profile.specs.Counted.{lengths}
-use Rattle.core_profile.proofs.Counts.{lengths-shown}
+use Rattle.core_profile.proofs.Lengths.{lengths-shown}
 use Rattle.core_profile.proofs.limits.check_limits.Goals as goal
 
 pub limits_by-requires-own : goal.limits_by-requires-own

@@ -5,7 +5,7 @@ use Rattle.core_form.specs.Walks.{literal_name}
 use Rattle.core_form.specs.View.{view}
 use Rattle.core_scope.specs.ScopeFaults.{is_float_function}
 use Rattle.core_profile.specs.ProfileFaults.{outside}
-use Rattle.core_profile.proofs.Counts.{expr_count-exprs}
+use Rattle.core_profile.proofs.Lengths.{expr_count-exprs}
 use Rattle.core_profile.proofs.profile.keep_call.Goals as goal
 use Rattle.first_fault.specs.FirstFault.{first_with}
 

@@ -1,7 +1,7 @@
 use Rattle.std.proofs.Common.{not, sym, ap, ◌∙◌}
 use Rattle.erl_base.specs.declared.refusal.Outside.TheVariants.{Primop}
 use Rattle.core_profile.specs.ProfileFaults.{outside, is_primop}
-use Rattle.core_profile.proofs.Counts.{expr_count-exprs}
+use Rattle.core_profile.proofs.Lengths.{expr_count-exprs}
 use Rattle.core_profile.proofs.profile.keep_primop.Goals as goal
 use Rattle.first_fault.specs.FirstFault.{first_with}
 
