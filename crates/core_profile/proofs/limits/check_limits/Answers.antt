@@ -5,6 +5,6 @@ use Rattle.core_profile.specs.Counted.{lengths}
 use Rattle.core_profile.proofs.Lengths.{lengths-shown}
 use Rattle.core_profile.proofs.limits.check_limits.Goals as goal
 
-pub limits_by-requires-own : goal.limits_by-requires-own
-limits_by-requires-own c =
+pub limits_by-requires : goal.limits_by-requires
+limits_by-requires c =
     ap lengths (c.as_slice.ensures ∙ c.requires.own) ∙ lengths-shown (module_sites (module_view c.args.tree.now))
