@@ -100,7 +100,9 @@ pub fn is_record_of(alloc: Global, value: &Value, tag: &Value, size: &Value) -> 
     ensures whole { IfOk result (Holds IsWhole) }
 {
     match int_in(size) {
-        Some(size) if is_of_type(TypeTest::IsAtom, tag) => { truth(alloc, has_tag_and_size(value, tag, size)) }
+        Some(size) if is_of_type(TypeTest::IsAtom, tag) => {
+            truth(alloc, has_tag_and_size(value, tag, size))
+        }
         Some(_) | None => badarg(alloc),
     }
 }

@@ -15,7 +15,8 @@ use clock::Clock;
 use std::env;
 use std::test::Fail;
 
-const USAGE: &str = "usage: measure [timed] SUBJECT FILE, of the subjects tokens, term, values, lists";
+const USAGE: &str =
+    "usage: measure [timed] SUBJECT FILE, of the subjects tokens, term, values, lists";
 
 fn measured(rt: &HostRuntime, subject: &str, clock: &mut Clock, text: &[u8]) -> Result<(), Fail> {
     match subject {
