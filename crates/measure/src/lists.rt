@@ -1,5 +1,4 @@
 // Lists in a list, each gone along once.
-ghost use Rattle.std.specs.Prelude.{◌×◌};
 ghost use Rattle.shared_term.specs.View.{IsWhole};
 
 use crate::clock::Clock;
@@ -14,7 +13,7 @@ const STEPS: usize = 1_001_001;
 fn next<'a>(lists: &'a Value, at: &'a Value) -> (&'a Value, &'a Value)
     requires lists { IsWhole lists.now }
     requires at { IsWhole at.now }
-    ensures { IsWhole result.0 × IsWhole result.1 }
+    ensures { IsWhole result.0.now × IsWhole result.1.now }
 {
     if let Some(rest) = at.tail() {
         return (lists, rest);

@@ -1,4 +1,3 @@
-use Rattle.std.proofs.Common.{◌×◌}
 use Rattle.shared_term.specs.View.{IsWhole}
 use Rattle.measure.proofs.lists.walk.Given as goal
 
