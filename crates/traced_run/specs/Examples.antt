@@ -26,6 +26,7 @@ end_with is t =
     (traced_run (one_function is) (record { name = codes "f"; arity = 1 }) (t ∷ [])
     (record { own = T.pid 1; mailbox = []; replies = []; choices = [] }) 20).end
 
+-- a sum of 2^127 - 1, one of 2^127, and one that is written where nothing may be
 pub record SumsAtTheRange : Type 0 where
   -- a sum of 2^127 - 1 is in range
   pub last : end_with (gc_bif Add None 1 (reg (x_reg 0) ∷ C.integer (pos 0) ∷ []) (x_reg 0) ∷ return ∷ [])
