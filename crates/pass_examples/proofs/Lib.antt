@@ -1,1 +1,2 @@
 mod SmallPath
+mod WholePath

@@ -38,12 +38,12 @@ use Rattle.pass_contract.specs.PassContract.{Run, undef, at_once, ComesTo, Gives
 use Rattle.pass_examples.specs.SmallPath.{Small, gives_term, gives_param, goes_to, takes_length, calls_out, kernel_body, next_of, kernel_fun, the_block, ssa_body, spots, placed_body, framed_body, Fits, SmallPath, SmallPathsKeep}
 
 -- the end that an answer gives
-abbrev end_of : Answer → Outcome Term
+abbrev pub end_of : Answer → Outcome Term
 end_of (value t) = gives t
 end_of (raised c r) = raises c r
 
 -- what each does with its argument
-abbrev result : Small → Here → Term → State → State × Outcome Term
+abbrev pub result : Small → Here → Term → State → State × Outcome Term
 result (gives_term t) here v s = (s, gives t)
 result gives_param here v s = (s, gives v)
 result (goes_to n) here v s = one (calling here n true (v ∷ []) >>= single) give s
@@ -51,7 +51,7 @@ result takes_length here v s = (s, end_of (answer B.Length here.own (v ∷ [])))
 result (calls_out t u) here v s = one (call_terms here.own t u (v ∷ [])) give s
 
 -- with any terms
-abbrev given : Small → Here → Values → State → State × Outcome Term
+abbrev pub given : Small → Here → Values → State → State × Outcome Term
 given q here (v ∷ []) s = result q here v s
 given q here _ s = (s, undef)
 
@@ -97,7 +97,7 @@ module _ (w : Compared) (name : Name) (own : Term) (f g : ℕ → Values → M T
   result_same (calls_out t' u) v s t r = bind_agrees w _ _ _ _
       (call_terms_agrees w name own f g h t' u (v ∷ [])) (λ vs. give_agrees w (only vs)) s t r
 
-  given_same : (q : Small) (vs : Values) (s t : State) → SameState w s t
+  pub given_same : (q : Small) (vs : Values) (s t : State) → SameState w s t
       → SameResult w (given q (here_of name own f) vs s) (given q (here_of name own g) vs t)
   given_same q [] s t r = record { state = r; end = refl }
   given_same q (v ∷ []) s t r = result_same q v s t r
@@ -120,7 +120,7 @@ some_is a b e = cc
 
 -- Kernel form.
 
-answer_then : (a : Answer) (k : Values → M Values) (s : State)
+pub answer_then : (a : Answer) (k : Values → M Values) (s : State)
     → ((t : Term) (u : State) → k (t ∷ []) u ≡ (u, gives (t ∷ [])))
     → one (answers a >>= k) give s ≡ (s, end_of a)
 answer_then (value t) k s h = ap (λ r. going_on r (λ ws. give (only ws))) (h t s)
@@ -153,7 +153,7 @@ kernel_given w k n q here (v ∷ u ∷ vs) s = by (eqb (length (v ∷ u ∷ vs))
     by false e = refl
     by true e = absurd cc
 
-kernel_is : (m : InModule) (k : FunKey) (n : ℕ) (q : Small) → Does (kernel_does (kernel_fun k n q) m) q
+pub kernel_is : (m : InModule) (k : FunKey) (n : ℕ) (q : Small) → Does (kernel_does (kernel_fun k n q) m) q
 kernel_is m k n q = record {
   does = λ here vs s. record { within = 0; gives = ap Some (kernel_given _ k n q here vs s) };
   alone = λ here vs s r e. sym (some_is _ _ e.gives) ∙ kernel_given _ k n q here vs s;
@@ -161,7 +161,7 @@ kernel_is m k n q = record {
 
 -- Bodies: what comes with one term in a turn, and nothing in none.
 
-does_by : (body : Run) (q : Small)
+pub does_by : (body : Run) (q : Small)
     → ((here : Here) (v : Term) (s : State) (k : ℕ) → body here (v ∷ []) s (suc k) ≡ Some (result q here v s))
     → ((here : Here) (v : Term) (s : State) (r : State × Outcome Term) → body here (v ∷ []) s zero ≡ Some r → ⊥)
     → Does (λ here vs s k. if eqb (length vs) 1 then body here vs s k else Some (s, undef)) q
@@ -197,7 +197,7 @@ does_by body q h z = record {
         (sym e ∙ others here (v ∷ u ∷ vs) s k (eqb (length (v ∷ u ∷ vs)) 1) (more_than_one (length vs)))
 
 -- a call that ends the body
-ends_over : {X : Type 0} (o : Storage X) (around : Around) (here : Here) (go : Go o around here) (n : ℕ) (l : Last)
+pub ends_over : {X : Type 0} (o : Storage X) (around : Around) (here : Here) (go : Go o around here) (n : ℕ) (l : Last)
     (k : Frame X → State → After X) (x : State × Outcome Values)
     → result_of (leave o around here go n l (go_on (ends_with o around here x) k))
     ≡ Some (going_on x (λ ws. give (only ws)))
@@ -231,10 +231,10 @@ ssa_result m n (calls_out t u) h here v s k =
     (ret (S.var 1)) _ (call_terms here.own t u (v ∷ []) s)
 ssa_result m n takes_length h here v s k = ssa_length (around_in m) n here v s k (answer B.Length here.own (v ∷ []))
 
-no_turn : (r : State × Outcome Term) → None ≡ Some r → ⊥
+pub no_turn : (r : State × Outcome Term) → None ≡ Some r → ⊥
 no_turn r e = cc
 
-ssa_is : (m : InModule) (n : ℕ) (q : Small) → Fits m q → Does (ssa_does (ssa_body n q) (around_in m)) q
+pub ssa_is : (m : InModule) (n : ℕ) (q : Small) → Fits m q → Does (ssa_does (ssa_body n q) (around_in m)) q
 unfolding ssa_run
 ssa_is m n q h = does_by _ q (ssa_result m n q h) (λ here v s r e. no_turn r e)
 

@@ -1,1 +1,2 @@
 pub mod SmallPath
+pub mod WholePath

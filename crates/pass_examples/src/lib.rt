@@ -7,8 +7,14 @@
 #![tactic(auto)]
 
 ghost use Rattle.pass_examples.specs.SmallPath.{SmallPathsKeep};
+ghost use Rattle.pass_examples.specs.WholePath.{WholePath};
 
 /// Functions of one parameter, from kernel form to a body with frames: each step keeps what passes keep.
 pub fn small_paths_keep()
     ensures { SmallPathsKeep }
+{}
+
+/// A small module from Core Erlang to its assembly, shown function by function along the forms between them.
+pub fn whole_path_behaves()
+    ensures { WholePath }
 {}
