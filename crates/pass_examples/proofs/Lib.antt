@@ -1,2 +1,3 @@
 mod SmallPath
 mod WholePath
+mod Refused

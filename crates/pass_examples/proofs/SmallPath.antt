@@ -115,7 +115,7 @@ alike_refine : (old new : Run) (q : Small) → Does old q → Does new q → Ref
 alike_refine old new q x y here vs s r l e =
     subst (λ z. ComesTo new here vs s z) (sym (x.alone here vs s r e)) (y.does here vs s)
 
-some_is : (a b : State × Outcome Term) → Some a ≡ Some b → a ≡ b
+pub some_is : (a b : State × Outcome Term) → Some a ≡ Some b → a ≡ b
 some_is a b e = cc
 
 -- Kernel form.
@@ -299,7 +299,7 @@ framed_is m n q h = does_by _ q (framed_result m n q h) (λ here v s r e. no_tur
 
 -- Shapes.
 
-none_there : {A : Type 0} (x : A) → Contains [] x → ⊥
+pub none_there : {A : Type 0} (x : A) → Contains [] x → ⊥
 none_there x (k, l, e) = omega (arith, l)
 
 one_there : (x v : ℕ) → Contains (x ∷ []) v → x ≡ v

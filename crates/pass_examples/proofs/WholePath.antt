@@ -60,7 +60,8 @@ use Rattle.pass_examples.proofs.SmallPath.{end_of, result, given, given_same, an
 -- With spots, and without a frame.
 
 placed_length : (w : Around) (n : ℕ) (here : Here) (v : Term) (s : State) (k : ℕ) (a : Answer)
-    → result_of (leave (in_registers register) w here (blocks (in_registers register) w here (ssa_body n takes_length) k)
+    → result_of (leave (in_registers register) w here (blocks (in_registers register) w here (ssa_body n takes_length)
+    k)
     0 (ret (S.var 1)) (go_on (Operations.answers (in_registers register) w here tail (Some 1) a (record {
       store = record no_registers { xs = with_register 0 (Spot.own 0 (term v)) nothing };
       contexts = [];
@@ -360,7 +361,8 @@ module _ (own : Term) where
   }
 
   moved : (t v : Term) (above : List Activation) (m : Machine) (rs : List Reply) (log : List Steps.Event)
-      → Comes (target asm own) (ready (move (Source.literal t) (Reg.x_reg 0) ∷ return ∷ []) (cells (v ∷ [])) None above m)
+      → Comes (target asm own) (ready (move (Source.literal t) (Reg.x_reg 0) ∷ return ∷ []) (cells (v ∷ [])) None above
+      m)
       rs log (returns_to above t (ready [] (cells (t ∷ [])) None above m)) rs log
   unfolding step run
   moved t v above m rs log = record { steps = 1; then_same = λ k. refl }
@@ -400,7 +402,8 @@ module _ (own : Term) where
     comes = record {
       steps = 1;
       then_same = λ k. ap
-          (λ z. perform (GeneralRules.answers asm None z (Reg.x_reg 0) (asked v above m)) (run (step asm) (suc k)) rs log)
+          (λ z. perform (GeneralRules.answers asm None z (Reg.x_reg 0) (asked v above m)) (run (step asm) (suc k)) rs
+          log)
           e;
     };
   }
@@ -471,7 +474,8 @@ module _ (own : Term) where
     comes = moved T.nil v above m rs log;
   }
 
-  module _ (n : ℕ) (f : AsmFun) (found : slice_get asm.funs n ≡ Some f) (arity : f.key.arity ≡ 1) (coded : Coded n f.code)
+  module _ (n : ℕ) (f : AsmFun) (found : slice_get asm.funs n ≡ Some f) (arity : f.key.arity ≡ 1)
+      (coded : Coded n f.code)
     where
       fun_is : (g : AsmFun) → slice_get asm.funs n ≡ Some g → f ≡ g
       fun_is g e = let z : Some f ≡ Some g = sym found ∙ e in cc
@@ -500,7 +504,8 @@ module _ (own : Term) where
   realized (suc zero) = site_realized 1 _ refl refl code_other (framed_at 1)
   realized (suc (suc zero)) = site_realized 2 _ refl refl code_size (framed_at 2)
   realized (suc (suc (suc zero))) = site_realized 3 _ refl refl code_none (framed_at 3)
-  realized (suc (suc (suc (suc n)))) = λ d enter vs above m rs log s r low all l e w c. absurd (nothing_found e.function e.found)
+  realized (suc (suc (suc (suc n)))) = λ d enter vs above m rs log s r low all l e w c. absurd
+      (nothing_found e.function e.found)
     where
       nothing_found : (g : AsmFun) → None ≡ Some g → ⊥
       nothing_found g e = cc

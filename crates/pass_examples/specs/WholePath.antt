@@ -36,7 +36,7 @@ function e = fun here_in_text (x ∷ []) e
 abbrev pub export : Name → FunName
 export f = record { key = key f; place = here_in_text }
 
--- 'same'/1 gives X, 'other'/1 = apply 'same'/1(X), 'size'/1 = let <Y> = call 'erlang':'length'(X) in Y, 'none'/1 gives []
+-- 'same'/1 gives X, 'other'/1 applies 'same'/1 to X, 'size'/1 gives erlang:length(X) by a let, 'none'/1 gives []
 abbrev pub core : Module
 core = record {
   name = codes "m";
@@ -45,10 +45,12 @@ core = record {
   defs =
       and_def (def here_in_text (key (codes "same")) (function (var here_in_text (codes "X"))))
       (and_def (def here_in_text (key (codes "other")) (function
-      (apply here_in_text (fun_name here_in_text (key (codes "same"))) (and_expr (var here_in_text (codes "X")) no_expr))))
+      (apply here_in_text (fun_name here_in_text (key (codes "same")))
+      (and_expr (var here_in_text (codes "X")) no_expr))))
       (and_def (def here_in_text (key (codes "size")) (function
       (let_in here_in_text (record { name = codes "Y"; place = here_in_text } ∷ [])
-      (call here_in_text (literal here_in_text (T.atom (codes "erlang"))) (literal here_in_text (T.atom (codes "length")))
+      (call here_in_text (literal here_in_text (T.atom (codes "erlang")))
+      (literal here_in_text (T.atom (codes "length")))
       (and_expr (var here_in_text (codes "X")) no_expr))
       (var here_in_text (codes "Y")))))
       (and_def (def here_in_text (key (codes "none")) (function (literal here_in_text T.nil))) no_def)));
