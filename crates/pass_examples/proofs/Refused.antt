@@ -1,5 +1,5 @@
 -- Wrong bodies are refused.
-use Rattle.std.proofs.Common.{◌≡◌, ◌≤◌, ℕ, zero, suc, List, [], ◌∷◌, Bool, false, true, Option, Some, None, IsTrue, refl, sym, ap, ◌∙◌, subst, arith}
+use Rattle.std.proofs.Common.{◌≡◌, ◌≤◌, ℕ, zero, suc, List, [], ◌∷◌, Bool, false, true, Some, None, IsTrue, refl, sym, ap, ◌∙◌, subst, arith}
 use Rattle.erl_base.specs.declared.ids.FunKey.{FunKey}
 use Rattle.erl_term.specs.Term as T
 use Rattle.erl_term.specs.Term.{Term}
@@ -19,7 +19,7 @@ use Rattle.pass_contract.specs.SameRun.{Compared, SameState, EntersAgree, done}
 use Rattle.pass_contract.specs.PassContract.{Run, ComesTo, GivesSame, Agrees}
 use Rattle.pass_contract.proofs.Modules.{same_itself, lawful_itself}
 use Rattle.pass_examples.specs.SmallPath.{gives_term, gives_param, kernel_fun, ssa_body}
-use Rattle.pass_examples.specs.Refused.{endless, two_params, looks_at, cutting, goes_by_marker, bare, Made, Refused, WrongPassesRefused}
+use Rattle.pass_examples.specs.Refused.{endless, two_params, looks_at, cutting, goes_by_marker, bare, Made, WrongPassesRefused}
 use Rattle.pass_examples.proofs.SmallPath.{some_is, none_there, no_turn, kernel_is, ssa_is}
 
 abbrev empty : State

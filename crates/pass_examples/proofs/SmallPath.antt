@@ -1,5 +1,5 @@
 -- What small functions do in each form, and that each step keeps it.
-use Rattle.std.proofs.Common.{◌≡◌, ◌≤◌, ◌⊎◌, inl, inr, max, ℕ, zero, suc, List, [], ◌∷◌, map, length, Bool, true, false, eqb, Contains, Option, Some, None, if◌then◌else◌, refl, sym, ap, ◌∙◌, subst, arith}
+use Rattle.std.proofs.Common.{◌≡◌, ◌≤◌, ◌⊎◌, inl, inr, ℕ, zero, suc, [], ◌∷◌, length, Bool, true, false, eqb, Contains, Some, None, if◌then◌else◌, refl, sym, ap, ◌∙◌, subst, arith}
 use Rattle.std.proofs.Math.Nat.{le-max_left}
 use Rattle.erl_base.specs.Names.{Name}
 use Rattle.erl_base.specs.declared.ids.FunKey.{FunKey}
@@ -9,7 +9,7 @@ use Rattle.bif_table.specs.Builtins as B
 use Rattle.bif_table.specs.BuiltinAnswer.{Answer, value, raised, answer}
 use Rattle.world_model.specs.Requests.{answers}
 use Rattle.world_model.specs.RemoteCalls.{call_terms}
-use Rattle.world_model.specs.Run.{Entry, State, Outcome, gives, raises, waits, spent, M, ◌>>=◌, going_on, give, noting, entered}
+use Rattle.world_model.specs.Run.{Entry, State, Outcome, gives, raises, waits, spent, M, ◌>>=◌, going_on, give, entered}
 use Rattle.world_model.specs.Meaning.{one, single}
 use Rattle.world_model.specs.Entries.{entry_left}
 use Rattle.step_machine.specs.Bodies.{Here, here_of, calling}
@@ -22,7 +22,7 @@ use Rattle.kernel_meaning.proofs.Agreeing.{bind_agrees, give_agrees, noted_same}
 use Rattle.kernel_meaning.proofs.Congruences.{call_terms_agrees}
 use Rattle.ssa_form.specs.Ssa as S
 use Rattle.ssa_form.specs.Ssa.{Last, ret}
-use Rattle.ssa_form.specs.Storage.{Held, term, tail, Around, Storage, Frame, After, Ended, go_on}
+use Rattle.ssa_form.specs.Storage.{term, tail, Around, Storage, Frame, After, go_on}
 use Rattle.ssa_form.specs.Operations as Operations
 use Rattle.ssa_form.specs.Operations.{ends_with}
 use Rattle.ssa_form.specs.SsaRun.{ssa_run, Go, leave, in_vars, blocks, params_hold, chain_does}
@@ -30,12 +30,11 @@ use Rattle.ssa_form.specs.Spots as Spot
 use Rattle.ssa_form.specs.Spots.{nothing}
 use Rattle.ssa_form.specs.PlacedRun.{in_registers, no_registers, placed_run}
 use Rattle.ssa_form.specs.FramedRun.{in_stack, framed_run}
-use Rattle.ssa_form.specs.PassView.{result_of, around_in, ssa_does, placed_does, framed_does, ssa_form, placed_form, framed_form}
+use Rattle.ssa_form.specs.PassView.{result_of, around_in, ssa_does, placed_does, framed_does, ssa_form, placed_form}
 use Rattle.pass_contract.specs.InModule.{InModule}
-use Rattle.pass_contract.specs.Lawful.{IsLawful}
 use Rattle.pass_contract.specs.SameRun.{Compared, SameState, SameResult, EntersAgree}
-use Rattle.pass_contract.specs.PassContract.{Run, undef, at_once, ComesTo, GivesSame, Agrees, Refines, Form, IsLeft, deepest, most, most_made, are_fitting, KeepsShape, Keeps, KeepsResults}
-use Rattle.pass_examples.specs.SmallPath.{Small, gives_term, gives_param, goes_to, takes_length, calls_out, kernel_body, next_of, kernel_fun, the_block, ssa_body, spots, placed_body, framed_body, Fits, SmallPath, SmallPathsKeep}
+use Rattle.pass_contract.specs.PassContract.{Run, undef, ComesTo, Agrees, Refines, Form, deepest, most_made, KeepsShape}
+use Rattle.pass_examples.specs.SmallPath.{Small, gives_term, gives_param, goes_to, takes_length, calls_out, kernel_body, kernel_fun, ssa_body, spots, placed_body, framed_body, Fits, SmallPathsKeep}
 
 -- the end that an answer gives
 abbrev pub end_of : Answer → Outcome Term

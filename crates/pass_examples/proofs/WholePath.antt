@@ -1,6 +1,5 @@
 -- The small module does the same in each form, and its assembly realizes it.
 use Rattle.std.proofs.Common.{◌≡◌, ◌≤◌, ℕ, zero, suc, List, [], ◌∷◌, length, Bool, true, false, eqb, slice_get, Contains, codes, Option, Some, None, if◌then◌else◌, refl, sym, ap, ◌∙◌, subst, arith}
-use Rattle.erl_base.specs.Names.{Name}
 use Rattle.erl_base.specs.declared.ids.FunKey.{FunKey}
 use Rattle.erl_term.specs.Term as T
 use Rattle.erl_term.specs.Term.{Term}
@@ -17,7 +16,7 @@ use Rattle.core_form.specs.Scope.{with_names}
 use Rattle.core_form.specs.Sites.{module_scope}
 use Rattle.core_form.specs.Walks.{with_let}
 use Rattle.core_meaning.specs.Calls.{Invocation}
-use Rattle.core_meaning.specs.CoreRun.{Known, known, known_export, apart_of, run_site, deep}
+use Rattle.core_meaning.specs.CoreRun.{known, apart_of, run_site, deep}
 use Rattle.core_meaning.specs.Evaluation.{eval}
 use Rattle.core_meaning.specs.EvaluationContext.{EvaluationContext, bind, past}
 use Rattle.step_machine.specs.Bodies.{Here, here_of, calling}
@@ -29,7 +28,7 @@ use Rattle.beam_table.specs.GeneralRules.{returns_to, cells}
 use Rattle.beam_table.specs.InstructionStep.{step}
 use Rattle.beam_table.specs.MachineState.{Cell, Activation, Machine}
 use Rattle.kernel_form.specs.Kernel as K
-use Rattle.kernel_meaning.specs.Forms.{core_body, core_runs, kernel_does, kernel_runs}
+use Rattle.kernel_meaning.specs.Forms.{core_body, core_runs, kernel_runs}
 use Rattle.kernel_meaning.proofs.Proper as Kernel
 use Rattle.ssa_form.specs.Ssa as S
 use Rattle.ssa_form.specs.Ssa.{Body, ret}
@@ -41,10 +40,10 @@ use Rattle.ssa_form.specs.Spots.{nothing}
 use Rattle.step_machine.specs.Frames.{with_register}
 use Rattle.ssa_form.specs.PlacedRun.{Placed, in_registers, no_registers, placed_run}
 use Rattle.ssa_form.specs.FramedRun.{Framed, in_stack, framed_run}
-use Rattle.ssa_form.specs.PassView.{result_of, around_in, ssa_does, placed_does, framed_does, ssa_runs, placed_runs, framed_runs}
+use Rattle.ssa_form.specs.PassView.{result_of, around_in, placed_does, framed_does, ssa_runs, placed_runs, framed_runs}
 use Rattle.ssa_form.proofs.OneResult.{proper_each}
-use Rattle.pass_contract.specs.SameRun.{Compared, nothing_more, SameState, SameResult, EntersAgree}
-use Rattle.pass_contract.specs.Lawful.{Lawful, IsLawful}
+use Rattle.pass_contract.specs.SameRun.{Compared, nothing_more, SameResult}
+use Rattle.pass_contract.specs.Lawful.{Lawful}
 use Rattle.pass_contract.specs.PassContract.{Run, undef, missing, ComesTo, IsProper, Agrees, Refines, MeansSame, Row, ends, agreed, refined}
 use Rattle.pass_contract.proofs.Modules.{rows_mean, lawful_itself}
 use Rattle.behaviour.specs.Called.{export_keys}

@@ -1,6 +1,6 @@
 -- One small path through kernel form and the three forms of bodies: functions of one parameter, and what each step of
 -- the way keeps.
-use Rattle.std.specs.Prelude.{◌≡◌, ℕ, List, [], ◌∷◌, Bool, true, slice_get, Option, Some}
+use Rattle.std.specs.Prelude.{◌≡◌, ℕ, [], ◌∷◌, true, slice_get, Some}
 use Rattle.erl_base.specs.declared.ids.FunKey.{FunKey}
 use Rattle.erl_term.specs.Term.{Term}
 use Rattle.bif_table.specs.Builtins as B
