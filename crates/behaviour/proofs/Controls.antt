@@ -9,17 +9,17 @@ use Rattle.world_model.specs.Run.{gives}
 use Rattle.world_model.specs.World.{Script}
 use Rattle.core_form.specs.declared.module.FunName.{FunName}
 use Rattle.core_form.specs.Core.{Module, literal, fun, no_def, and_def, def}
-use Rattle.core_meaning.specs.CoreRun as E
-use Rattle.core_meaning.specs.CoreRun.{Result, evaluated, deep, known, known_export}
+use Rattle.core_meaning.specs.CoreRun.{Result, evaluated, deep}
 use Rattle.step_machine.specs.Bodies.{entered_deep}
 use Rattle.step_machine.specs.Steps.{Ran, ran, over, unfinished, is_bad}
 use Rattle.beam_table.specs.Code.{Reg, Source, Insn, move, return, jump, call_only, AsmFun, AsmModule}
 use Rattle.beam_table.specs.MachineRun.{asm_run}
-use Rattle.behaviour.proofs.Modules.{module_same, module_tails}
-use Rattle.behaviour.proofs.Small.{code, bodies, keeps, bodies_realized}
+use Rattle.pass_contract.specs.PassContract.{at_once}
+use Rattle.behaviour.proofs.Modules.{functions_give_module}
+use Rattle.behaviour.proofs.Small.{code, bodies, literals_realized, literals_mean}
 use Rattle.behaviour.specs.Called.{Called, export_keys}
 use Rattle.behaviour.specs.Matched.{FollowsCosts, StaysWithin, sites_in}
-use Rattle.behaviour.specs.FunctionsGiveModule.{Realized}
+use Rattle.behaviour.specs.FunctionsGiveModule.{Finds, Compiled}
 use Rattle.behaviour.specs.SameBehaviour.{SameBehaviour, TailCalls, CheapCalls, FollowsResults}
 
 abbrev pub at1 : Place
@@ -138,34 +138,37 @@ found_one zero f e = ap (λ g. g.code) (sym (only_some e))
     only_some q = cc
 found_one (suc n) f e = absurd cc
 
-one_realized : (f : FunKey) (vs : List Term) (x : Script) → Called core f vs x → Realized core (asm 1) f vs x
-unfolding entered_deep bodies deep
-one_realized f vs x c =
-    let e = called f vs x c in
-    subst (λ g. Realized core (asm 1) g vs x) e.0 (subst (λ us. Realized core (asm 1) one us x) e.1 realized)
+one_found : (f : FunKey) → Contains (export_keys core) f → Finds core (asm 1) f
+one_found f c = subst (λ g. Finds core (asm 1) g) (only_one f c) found
   where
-    same : (n : ℕ) → entered_deep (codes "one") x.own (bodies (T.int (pos 1))) (suc n)
-        (known_export core one) [] (E.start x n)
-        ≡ deep (known core x.own) (suc n) (known_export core one) [] (E.start x n)
-    same n = refl
+    found : Finds core (asm 1) one
+    found = record { function = function 1; found = refl; arity = refl; code = refl }
 
-    realized : Realized core (asm 1) one [] x
-    realized = record {
-      bodies = bodies (T.int (pos 1));
-      keep = keeps (T.int (pos 1));
-      realized = bodies_realized (asm 1) (T.int (pos 1)) x.own found_one (codes "one");
-      same = same;
-      function = function 1;
-      found = refl;
-      arity = refl;
-      code = refl;
+one_compiled : (f : FunKey) (vs : List Term) (x : Script) → Called core f vs x → Compiled core (asm 1) f vs x
+unfolding entered_deep deep
+one_compiled f vs x c =
+    let e = called f vs x c in
+    subst (λ g. Compiled core (asm 1) g vs x) e.0 (subst (λ us. Compiled core (asm 1) one us x) e.1 compiled)
+  where
+    compiled : Compiled core (asm 1) one [] x
+    compiled = record {
+      runs = λ n. at_once (bodies (T.int (pos 1)) n);
+      realized = literals_realized (asm 1) (T.int (pos 1)) x.own found_one (codes "one");
+      meaning = entered_deep (codes "one") x.own (bodies (T.int (pos 1)));
+      means = literals_mean (T.int (pos 1)) (codes "one") x.own;
+      shown = λ n. record { noted = λ log z. z; end = refl };
     }
 
+one_module : SameBehaviour core (asm 1) × TailCalls core (asm 1)
+one_module =
+    functions_give_module core (asm 1) (record { name = refl; attributes = refl; exports = refl }) one_found
+    one_compiled
+
 pub one_same_too : SameBehaviour core (asm 1)
-one_same_too = module_same core (asm 1) one_realized (record { name = refl; attributes = refl; exports = refl })
+one_same_too = one_module.0
 
 pub one_tails : TailCalls core (asm 1)
-one_tails = module_tails core (asm 1) one_realized
+one_tails = one_module.1
 
 -- Nor does it cost more.
 pub one_cheap : CheapCalls core (asm 1)

@@ -189,27 +189,33 @@ module _ (here : Invocation) (g : Scope) (bs : List Binder) (ms : List ℕ) (vs 
 
 -- A definition, as a site.
 
+if_true : {A : Type 0} (b : Bool) (x y z : A) → b ≡ true → x ≡ z → (if b then x else y) ≡ z
+if_true true x y z e p = p
+if_true false x y z e p = absurd cc
+
 site_gives : (here : Invocation) (p : Place) (f : FunKey) (e : Expr) (g : Scope) (n : ℕ) (vs : Values) (h : PlainFun)
-    (t : Term) → IsPlainFun f e h → given h.body vs ≡ Some t →
+    (t : Term) → IsPlainFun f e h → length vs ≡ f.arity → given h.body vs ≡ Some t →
     run_site here (Some (named_site p f e g [] n)) vs ≡ give t
 unfolding run_site
-site_gives here p f e g n vs h t w q =
+site_gives here p f e g n vs h t w l q =
     subst (λ z. run_site here (Some (named_site p f z g [] n)) vs ≡ give t) (sym w.is)
-    (ap (λ m. one m give) (body_gives here g w.params [] vs n w.body h.body t w.plain q))
+    (if_true _ _ _ _ (eq-eqb (length vs) (length w.params + 0) (omega (arith, l, w.arity)))
+    (ap (λ m. one m give) (body_gives here g w.params [] vs n w.body h.body t w.plain q)))
 
 -- The definitions of a module.
 
 pub found_site : (ds : Defs) (hs : List PlainFun) (f : FunKey) (i : ℕ) (h : PlainFun) (g : Scope) (k : ℕ)
     (rest : List Site) (vs : Values) (t : Term) →
-    IsPlain ds hs → Found hs f i h → given h.body vs ≡ Some t → (here : Invocation)
+    IsPlain ds hs → Found hs f i h → length vs ≡ f.arity → given h.body vs ≡ Some t → (here : Invocation)
     → run_site here (slice_get (own_sites ds g k ++ rest) i) vs ≡ give t
-found_site no_def [] f i h g k rest vs t a w q here = absurd w
-found_site no_def (h0 ∷ hs) f i h g k rest vs t a w q here = absurd a
-found_site (and_def d ds) [] f i h g k rest vs t a w q here = absurd a
-found_site (and_def (def p f0 e) ds) (h0 ∷ hs) f zero h g k rest vs t a w q here =
-    site_gives here p f0 e g k vs h0 t (fun_is f0 e h0 a.0) (ap (λ z. given z.body vs) w.0 ∙ q)
-found_site (and_def (def p f0 e) ds) (h0 ∷ hs) f (suc i) h g k rest vs t a w q here =
-    found_site ds hs f i h g (k + sites_in (body_of e)) rest vs t a.1 w.1 q here
+found_site no_def [] f i h g k rest vs t a w l q here = absurd w
+found_site no_def (h0 ∷ hs) f i h g k rest vs t a w l q here = absurd a
+found_site (and_def d ds) [] f i h g k rest vs t a w l q here = absurd a
+found_site (and_def (def p f0 e) ds) (h0 ∷ hs) f zero h g k rest vs t a w l q here =
+    let d = fun_is f0 e h0 a.0 in
+    site_gives here p f0 e g k vs h0 t d (l ∙ ap (λ z. z.arity) (sym w.1 ∙ d.key)) (ap (λ z. given z.body vs) w.0 ∙ q)
+found_site (and_def (def p f0 e) ds) (h0 ∷ hs) f (suc i) h g k rest vs t a w l q here =
+    found_site ds hs f i h g (k + sites_in (body_of e)) rest vs t a.1 w.1 l q here
 
 -- A name means the one function that has it.
 

@@ -63,7 +63,7 @@ module _ (m : Module) (hs : List PlainFun) (w : IsPlainModule m hs) (f : FunKey)
   site_gives here =
       let g = module_scope m.defs 0 [] in
       found_site m.defs hs f found.0 found.1 g (def_count m.defs)
-      (inner_sites m.defs g (def_count m.defs)) vs value.0 plain found.2 value.1 here
+      (inner_sites m.defs g (def_count m.defs)) vs value.0 plain found.2 c.arity value.1 here
 
   means : (n : ℕ) → evaluated m f vs x n ≡ plainly value.0
   unfolding evaluated

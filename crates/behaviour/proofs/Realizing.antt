@@ -1,6 +1,5 @@
 -- Functions one by one give the module.
 use Rattle.std.proofs.Common.{◌≡◌, ◌≤◌, Bool, true, ℕ, zero, suc, List, ◌∷◌, refl, sym, ap, ◌∙◌, subst, arith}
-use Rattle.erl_base.specs.Names.{Name}
 use Rattle.erl_term.specs.Term.{Term, Class}
 use Rattle.erl_term.specs.Terms.{only, Values}
 use Rattle.world_model.specs.Run as Run
@@ -8,19 +7,17 @@ use Rattle.world_model.specs.Meaning.{one, single}
 use Rattle.world_model.specs.Run.{State, Outcome, gives, raises, waits, spent, M, ◌>>=◌, after, going_on, give, noting, Entry}
 use Rattle.world_model.specs.World.{Reply}
 use Rattle.world_model.specs.Entries.{entry_left}
-use Rattle.step_machine.specs.Bodies.{Here, Bodies, entered_deep, calling}
+use Rattle.step_machine.specs.Bodies.{Here, calling}
 use Rattle.step_machine.specs.Steps.{Event, Stepped, goes, ends, notes, ran, unfinished, perform, run, sites}
-use Rattle.behaviour.specs.Realizes.{Target, Matches, Comes, To, Stands, Realizes, RealizesAll, BodiesRealized}
+use Rattle.behaviour.specs.Realizes.{Target, Matches, Comes, To, Stands, Realizes, RealizesAll, MeaningRealized}
 use Rattle.step_machine.specs.Steps.{up}
-use Rattle.step_machine.specs.EntryBound.{Lowers}
 
 module _ (t : Target) where
-  pub realized : (name : Name) (own : Term) (bs : Bodies) → BodiesRealized t name own bs
-      → ((d : ℕ) → Lowers (entered_deep name own bs d)) → (d : ℕ) → RealizesAll t d (entered_deep name own bs d)
-  unfolding entered_deep
-  realized name own bs h low zero n vs a m rs log s l e w = absurd (omega (arith, l))
-  realized name own bs h low (suc d) n vs a m rs log s l e w =
-      h d n (entered_deep name own bs d) vs a m rs log s (low d) (realized name own bs h low d) (omega (arith, l)) e w
+  pub realized : MeaningRealized t
+  realized name own runs enter h means zero n vs a m rs log s l e w = absurd (omega (arith, l))
+  realized name own runs enter h means (suc d) n vs a m rs log s l e w =
+      h n d (enter d) vs a m rs log s (enter (suc d) n vs s) (means.lawful d)
+      (realized name own runs enter h means d) (omega (arith, l)) e w (means.more d n vs s)
 
   pub up-up : (i j k : ℕ) → up i (up j k) ≡ up (up i j) k
   up-up zero j k = refl

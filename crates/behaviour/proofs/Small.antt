@@ -1,26 +1,22 @@
--- Functions that give a literal, from their meaning to their runs.
-use Rattle.std.proofs.Common.{◌≡◌, ℕ, suc, List, [], ◌∷◌, length, slice_get, Some, None, refl, sym, ◌∙◌, subst}
+-- Functions that give a literal, realized by their code.
+use Rattle.std.proofs.Common.{◌≡◌, ℕ, zero, suc, List, [], ◌∷◌, slice_get, Some, None, refl, sym, ◌∙◌, subst}
 use Rattle.erl_base.specs.Names.{Name}
 use Rattle.erl_term.specs.Term.{Term}
 use Rattle.erl_term.specs.Terms.{Values}
-use Rattle.world_model.specs.Run.{State, give}
-use Rattle.world_model.specs.World.{Reply, Script}
-use Rattle.core_meaning.specs.CoreRun as E
-use Rattle.step_machine.proofs.EntryLaws.{give_keeps}
+use Rattle.world_model.specs.Run.{State, Outcome, gives, give}
+use Rattle.world_model.specs.World.{Reply}
 use Rattle.step_machine.specs.Bodies.{Bodies, entered_deep}
-use Rattle.step_machine.specs.Follows.{Follows}
-use Rattle.step_machine.specs.Steps.{Event, run}
+use Rattle.step_machine.specs.Steps.{Event}
 use Rattle.step_machine.specs.Frames.{with_cell}
 use Rattle.beam_table.specs.Code.{Reg, Source, Insn, move, return, AsmFun, AsmModule}
 use Rattle.beam_table.specs.GeneralRules.{returns_to, cells}
 use Rattle.beam_table.specs.InstructionStep.{step}
-use Rattle.beam_table.specs.MachineRun.{start}
 use Rattle.beam_table.specs.MachineState.{Cell, Activation, Machine, unset}
-use Rattle.behaviour.proofs.Entering.{start_at_entry, start_holds}
-use Rattle.behaviour.proofs.Whole.{meant, kept_follows}
-use Rattle.step_machine.specs.EntryBound.{BodiesKeep}
+use Rattle.pass_contract.specs.Lawful.{IsLawful}
+use Rattle.pass_contract.specs.PassContract.{at_once, IsMeaning}
+use Rattle.pass_contract.proofs.Modules.{lawful_itself}
 use Rattle.behaviour.specs.MachineTarget.{AtEntry, Holds, target}
-use Rattle.behaviour.specs.Realizes.{Comes, BodiesRealized}
+use Rattle.behaviour.specs.Realizes.{Comes, Matches, Realizes, RunsRealized}
 
 abbrev pub code : Term → List Insn
 code t = move (Source.literal t) (Reg.x_reg 0) ∷ return ∷ []
@@ -29,7 +25,7 @@ code t = move (Source.literal t) (Reg.x_reg 0) ∷ return ∷ []
 abbrev placed : List Insn → List Cell → List Activation → Machine → Machine
 placed is cs a m = record m { xs = cs; frame = None; callers = a; save = 0; window = None; code = is; landing = None }
 
-unfoldable pub bodies : Term → Bodies
+abbrev pub bodies : Term → Bodies
 bodies t n here vs = give t
 
 module _ (a : AsmModule) (t : Term) (own : Term)
@@ -37,7 +33,7 @@ module _ (a : AsmModule) (t : Term) (own : Term)
   returned : (vs : Values) (above : List Activation) (m : Machine) (rs : List Reply) (log : List Event) →
       Comes (target a own) (placed (code t) (cells vs) above m) rs log
       (returns_to above t (placed [] (with_cell unset 0 (Cell.term t) (cells vs)) above m)) rs log
-  unfolding step run
+  unfolding step Rattle.step_machine.specs.Steps.run
   returned [] above m rs log = record { steps = 1; then_same = λ k. refl }
   returned (v ∷ vs) above m rs log = record { steps = 1; then_same = λ k. refl }
 
@@ -53,9 +49,10 @@ module _ (a : AsmModule) (t : Term) (own : Term)
     landing = h.landing i;
   }
 
-  pub bodies_realized : (name : Name) → BodiesRealized (target a own) name own (bodies t)
-  unfolding bodies
-  bodies_realized name d n enter vs above m rs log s low calls l e w = record {
+  given : (n : ℕ) (vs : Values) (above : List Activation) (m : Machine) (rs : List Reply) (log : List Event) (s : State)
+      → AtEntry a n vs above m → Matches (target a own) s m rs log
+      → Realizes (target a own) above m rs log (s, gives t)
+  given n vs above m rs log s e w = record {
     state = placed [] (with_cell unset 0 (Cell.term t) (cells vs)) above m;
     rs' = rs;
     log' = log;
@@ -76,23 +73,25 @@ module _ (a : AsmModule) (t : Term) (own : Term)
         (sym (is_placed n vs above m s e w.mailbox)) (returned vs above m rs log);
   }
 
--- and they keep their bound
-pub keeps : (t : Term) → BodiesKeep (bodies t)
-unfolding bodies
-keeps t d n here vs enters = give_keeps d t
+  some_is : (x y : State × Outcome Term) → Some x ≡ Some y → x ≡ y
+  some_is x y i = cc
 
--- so each call does what the meaning says, both ways
-small_follows : (a : AsmModule) (t : Term) (x : Script)
-    → ((n : ℕ) (f : AsmFun) → slice_get a.funs n ≡ Some f → f.code ≡ code t) →
-    (name : Name) (n : ℕ) (f : AsmFun) (vs : Values) → slice_get a.funs n ≡ Some f → length vs ≡ f.key.arity →
-    Follows (λ k. run (step a) k (start x vs f.code) x.replies [])
-    (λ k. meant (entered_deep name x.own (bodies t) (suc k) n vs (E.start x k)))
-small_follows a t x all name n f vs found arity =
-    kept_follows (target a x.own) name x.own (bodies t) (bodies_realized a t x.own all name) (keeps t) [] (λ u m. refl)
-    (λ c u m. refl)
-    n vs (start x vs f.code) x.replies (start_at_entry a n f x vs found arity) (E.start x) (λ k. refl)
-    (λ k. record {
-      replies = refl;
-      noted = record { happened = refl; entered = refl; tails = tt; looked = tt };
-      mailbox = start_holds k x vs f.code;
-    })
+  pub literals_realized : (name : Name) → RunsRealized (target a own) name own (λ n. at_once (bodies t n))
+  literals_realized name n d enter vs above m rs log s r low calls l e w c =
+      subst (λ z. Realizes (target a own) above m rs log z) (some_is (s, gives t) r c.gives)
+      (given n vs above m rs log s e w)
+
+-- and what they mean
+deep_lawful : (t : Term) (name : Name) (own : Term) (d : ℕ) → IsLawful (entered_deep name own (bodies t) d)
+unfolding entered_deep
+deep_lawful t name own zero n vs s = lawful_itself s
+deep_lawful t name own (suc d) n vs s = lawful_itself s
+
+pub literals_mean : (t : Term) (name : Name) (own : Term)
+    → IsMeaning name own (λ n. at_once (bodies t n)) (entered_deep name own (bodies t))
+unfolding entered_deep
+literals_mean t name own = record {
+  none = λ n vs s. refl;
+  more = λ d n vs s. record { within = 0; gives = refl };
+  lawful = deep_lawful t name own;
+}

@@ -5,8 +5,9 @@ use Rattle.erl_term.specs.Term.{Term, Class}
 use Rattle.erl_term.specs.Terms.{Values}
 use Rattle.world_model.specs.Run.{State, Outcome, gives, raises, waits, spent, M}
 use Rattle.world_model.specs.World.{Reply}
-use Rattle.step_machine.specs.Bodies.{Bodies}
-use Rattle.step_machine.specs.EntryBound.{Lowers}
+use Rattle.step_machine.specs.Bodies.{here_of}
+use Rattle.pass_contract.specs.Lawful.{IsLawful}
+use Rattle.pass_contract.specs.PassContract.{Run, ComesTo, IsMeaning}
 use Rattle.step_machine.specs.Follows.{Noted}
 use Rattle.step_machine.specs.Steps.{Event, Stepped, ends, ran, unfinished, up, perform, run, sites}
 
@@ -65,10 +66,21 @@ module _ (t : Target) where
       (n : ℕ) (vs : Values) (a : t.above) (m : t.state) (rs : List Reply) (log : List Event) (s : State) →
       s.left < d → t.at_entry n vs a m → Matches s m rs log → Realizes a m rs log (enter n vs s)
 
-  -- what is to be proved of each function of the module with this name, run by this process, the others left open
-  abbrev pub BodiesRealized : Name → Term → Bodies → Type 0
-  BodiesRealized name own bs =
-      (d n : ℕ) (enter : ℕ → Values → M Term) (vs : Values) (a : t.above) (m : t.state) (rs : List Reply)
-      (log : List Event) (s : State) →
-      Lowers enter → RealizesAll d enter → s.left ≤ d → t.at_entry n vs a m → Matches s m rs log →
-      Realizes a m rs log (bs n (record { name = name; own = own; enter = enter }) vs s)
+  -- what is to be proved of the function at a site, in whatever form, of the module with this name, run by this
+  -- process: the others are left open, and are lawful
+  abbrev pub RunRealized : Name → Term → ℕ → Run → Type 0
+  RunRealized name own n run =
+      (d : ℕ) (enter : ℕ → Values → M Term) (vs : Values) (a : t.above) (m : t.state) (rs : List Reply)
+      (log : List Event) (s : State) (r : State × Outcome Term) →
+      IsLawful enter → RealizesAll d enter → s.left ≤ d → t.at_entry n vs a m → Matches s m rs log →
+      ComesTo run (here_of name own enter) vs s r → Realizes a m rs log r
+
+  -- of all functions of a module
+  abbrev pub RunsRealized : Name → Term → (ℕ → Run) → Type 0
+  RunsRealized name own runs = (n : ℕ) → RunRealized name own n (runs n)
+
+  -- then it realizes what the module means, at every depth
+  abbrev pub MeaningRealized : Type 0
+  MeaningRealized =
+      (name : Name) (own : Term) (runs : ℕ → Run) (enter : ℕ → ℕ → Values → M Term) →
+      RunsRealized name own runs → IsMeaning name own runs enter → (d : ℕ) → RealizesAll d (enter d)

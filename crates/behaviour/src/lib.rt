@@ -5,7 +5,8 @@
 //! happens and the run ends the same.
 //!
 //! Sound both ways: each meaning with a bound is reached by some number of steps, and no step goes beyond the
-//! meanings. `functions_give_the_module` asks this of single functions alone.
+//! meanings. `passes_give_the_module` asks this of single functions alone, in the last form that they come to: code
+//! that realizes each of them, and a row of passes that leads there from the Core module.
 //!
 //! The public functions have no code: the contract of each is a law. Of the compiler's passes only that for plain
 //! modules stands here, as the definition `plain_asm`. How many steps a run takes is not compared.
@@ -13,4 +14,7 @@
 
 mod laws;
 
-pub use laws::{functions_give_the_module, plain_assembly_is_valid, plain_modules_behave_the_same};
+pub use laws::{
+    functions_give_the_module, passes_give_the_module, plain_assembly_is_valid,
+    plain_modules_behave_the_same, same_results_show,
+};

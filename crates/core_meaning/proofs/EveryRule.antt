@@ -28,7 +28,7 @@ use Rattle.core_meaning.specs.ClauseChoice.{case_end, case_tried, taken_if, guar
 use Rattle.core_meaning.specs.MarkingCalls.{awaited}
 use Rattle.core_meaning.specs.Evaluation.{build_each, operator_name, if_named, apply_name, eval, eval_all, eval_parts, eval_segments, choose}
 use Rattle.core_meaning.specs.CoreRun.{run_site}
-use Rattle.core_meaning.proofs.Rules.{Quiet, Logic, noting_quiet, answered_quiet, one_ok, single_ok, if_ok, call_out_ok, send_ok, answers_ok, put_all_ok, exit_ok, primitive_ok, badarg_ok, cutting_ok, beginning_ok, marking_ok}
+use Rattle.core_meaning.proofs.Rules.{move_taken, Quiet, Logic, noting_quiet, answered_quiet, one_ok, single_ok, if_ok, call_out_ok, send_ok, answers_ok, put_all_ok, exit_ok, primitive_ok, badarg_ok, cutting_ok, beginning_ok, marking_ok}
 
 unfoldable pub OptionRel : {A : Type 0} (L : Logic) → Option (M A) → Option (M A) → Type 0
 OptionRel L None None = Unit {0}
@@ -48,6 +48,7 @@ take_quiet : (m : Message)
       notes = happened (W.taken m.serial) ∷ looked (record { serial = m.serial; accepted = true }) ∷ s.notes;
     })
 take_quiet m = record {
+  move = move_taken m;
   left = λ s. refl;
   free = λ s k. refl;
   same = λ s. refl;
@@ -295,4 +296,5 @@ module _ (L : Logic) (here : Invocation) (f : ℕ → Values → M Term)
   pub site_ok : (o : Option Site) (vs : Values) → L.Rel (run_site here o vs) (run_site there o vs)
   unfolding run_site
   site_ok None vs = L.failed _ _
-  site_ok (Some x) vs = one_ok L _ _ _ _ (eval_ok x.body _) (λ t. L.given t)
+  site_ok (Some x) vs =
+      if_ok L _ _ _ _ _ (one_ok L _ _ _ _ (eval_ok x.body _) (λ t. L.given t)) (L.failed _ _)

@@ -6,9 +6,9 @@ mod Receives
 mod MarkedReceives
 mod Demands
 mod Binaries
-mod Rules
-mod EveryRule
-mod Kept
+pub mod Rules
+pub mod EveryRule
+pub mod Kept
 mod Longer
 mod Depth
 mod Bounds

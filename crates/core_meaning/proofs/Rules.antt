@@ -13,7 +13,7 @@ use Rattle.world_model.specs.Meaning.{one, single, either}
 use Rattle.world_model.specs.Requests.{replied, sent, call_out, send_or_call, answers, exit_of}
 use Rattle.world_model.specs.RemoteCalls.{raise_again}
 use Rattle.world_model.specs.MapUpdate.{put_all, put_each, Put}
-use Rattle.world_model.specs.Receive.{cutting}
+use Rattle.world_model.specs.Receive.{cutting, without}
 use Rattle.core_meaning.specs.Calls.{primitive}
 use Rattle.core_meaning.specs.ClauseChoice.{blank}
 use Rattle.core_meaning.specs.MarkingCalls.{marking, last_mark, beginning}
@@ -22,8 +22,19 @@ use Rattle.core_meaning.specs.Evaluation.{bits_or_badarg}
 abbrev pub with_left : ℕ → State → State
 with_left k s = record s { left = k }
 
+-- the changes of state that there are beside entries
+pub data Move : (State → State) → Type 0 where
+  move_noted : (n : Note) → Move (noting n)
+  move_answered : (q : Request) (r : Reply) (rs : List Reply) → Move (answered q r rs)
+  move_taken : (m : Message) → Move (λ s. record s {
+    mailbox = without m.serial s.mailbox;
+    notes = happened (W.taken m.serial) ∷ looked (record { serial = m.serial; accepted = true }) ∷ s.notes;
+  })
+  move_marked : (t : Term) (ns : List Note) → Move (last_mark t ns)
+
 -- a change of state that has nothing to do with the entries left, and notes none
 pub record Quiet (f : State → State) : Type 0 where
+  pub move : Move f
   pub left : (s : State) → (f s).left ≡ s.left
   pub free : (s : State) (k : ℕ) → f (with_left k s) ≡ with_left k (f s)
   pub same : (s : State) → entries (f s).notes ≡ entries s.notes
@@ -45,10 +56,12 @@ pub record Logic : Type 1 where
   pub guard : (m n : M Values) → Rel m n → m blank ≡ n blank
 
 pub noting_quiet : (n : Note) → ((s : State) → entries (noting n s).notes ≡ entries s.notes) → Quiet (noting n)
-noting_quiet n e = record { left = λ s. refl; free = λ s k. refl; same = e; grows = λ s. (n ∷ [], refl) }
+noting_quiet n e =
+    record { move = move_noted n; left = λ s. refl; free = λ s k. refl; same = e; grows = λ s. (n ∷ [], refl) }
 
 pub answered_quiet : (q : Request) (r : Reply) (rs : List Reply) → Quiet (answered q r rs)
 answered_quiet q r rs = record {
+  move = move_answered q r rs;
   left = λ s. refl;
   free = λ s k. refl;
   same = λ s. refl;
@@ -158,20 +171,62 @@ module _ (L : Logic) where
   beginning_ok o m m' r = L.moved (noting (began o)) (noting_quiet (began o) (λ s. refl)) m m' r
 
   mark_quiet : (t : Term) (ns : List Note) → Quiet (last_mark t ns)
-  mark_quiet t [] = record { left = λ s. refl; free = λ s k. refl; same = λ s. refl; grows = λ s. ([], refl) }
-  mark_quiet t (happened (W.asked q r) ∷ ns) =
-      record { left = λ s. refl; free = λ s k. refl; same = λ s. refl; grows = λ s. (marked _ ∷ [], refl) }
-  mark_quiet t (happened (W.taken n) ∷ ns) =
-      record { left = λ s. refl; free = λ s k. refl; same = λ s. refl; grows = λ s. ([], refl) }
-  mark_quiet t (entered e ∷ ns) =
-      record { left = λ s. refl; free = λ s k. refl; same = λ s. refl; grows = λ s. ([], refl) }
-  mark_quiet t (looked l ∷ ns) =
-      record { left = λ s. refl; free = λ s k. refl; same = λ s. refl; grows = λ s. ([], refl) }
-  mark_quiet t (marked x ∷ ns) =
-      record { left = λ s. refl; free = λ s k. refl; same = λ s. refl; grows = λ s. ([], refl) }
-  mark_quiet t (began o ∷ ns) =
-      record { left = λ s. refl; free = λ s k. refl; same = λ s. refl; grows = λ s. ([], refl) }
-  mark_quiet t (cut n ∷ ns) = record { left = λ s. refl; free = λ s k. refl; same = λ s. refl; grows = λ s. ([], refl) }
+  mark_quiet t [] = record {
+    move = move_marked t [];
+    left = λ s. refl;
+    free = λ s k. refl;
+    same = λ s. refl;
+    grows = λ s. ([], refl);
+  }
+  mark_quiet t (happened (W.asked q r) ∷ ns) = record {
+    move = move_marked t (happened (W.asked q r) ∷ ns);
+    left = λ s. refl;
+    free = λ s k. refl;
+    same = λ s. refl;
+    grows = λ s. (marked _ ∷ [], refl);
+  }
+  mark_quiet t (happened (W.taken n) ∷ ns) = record {
+    move = move_marked t (happened (W.taken n) ∷ ns);
+    left = λ s. refl;
+    free = λ s k. refl;
+    same = λ s. refl;
+    grows = λ s. ([], refl);
+  }
+  mark_quiet t (entered e ∷ ns) = record {
+    move = move_marked t (entered e ∷ ns);
+    left = λ s. refl;
+    free = λ s k. refl;
+    same = λ s. refl;
+    grows = λ s. ([], refl);
+  }
+  mark_quiet t (looked l ∷ ns) = record {
+    move = move_marked t (looked l ∷ ns);
+    left = λ s. refl;
+    free = λ s k. refl;
+    same = λ s. refl;
+    grows = λ s. ([], refl);
+  }
+  mark_quiet t (marked x ∷ ns) = record {
+    move = move_marked t (marked x ∷ ns);
+    left = λ s. refl;
+    free = λ s k. refl;
+    same = λ s. refl;
+    grows = λ s. ([], refl);
+  }
+  mark_quiet t (began o ∷ ns) = record {
+    move = move_marked t (began o ∷ ns);
+    left = λ s. refl;
+    free = λ s k. refl;
+    same = λ s. refl;
+    grows = λ s. ([], refl);
+  }
+  mark_quiet t (cut n ∷ ns) = let q : Quiet (last_mark t ns) = mark_quiet t ns in record {
+    move = move_marked t (cut n ∷ ns);
+    left = q.left;
+    free = q.free;
+    same = q.same;
+    grows = q.grows;
+  }
 
   marked_ok : (vs : Values)
       → L.Rel (λ s. (last_mark (only vs) s.notes s, gives vs)) (λ s. (last_mark (only vs) s.notes s, gives vs))

@@ -17,17 +17,21 @@ use Rattle.core_meaning.specs.Calls.{Invocation}
 use Rattle.core_meaning.specs.EvaluationContext.{holding}
 use Rattle.core_meaning.specs.Evaluation.{eval}
 
--- a function's body, with its arguments and captured terms
+-- a function's body, with its arguments and captured terms; where it is not there, or is entered with another number of
+-- terms than it takes, it raises undef
 unfoldable pub run_site : Invocation → Option Site → Values → M Term
 unfolding eval
 run_site here None vs = fail T.error (word (codes "undef"))
-run_site here (Some x) vs = one (eval here x.body (record {
-  scope = inside x;
-  env = holding (param_numbers x ++ numbers_of x.captures) vs [];
-  next = x.first;
-  tail = true;
-  lets = [];
-})) give
+run_site here (Some x) vs =
+    if eqb (length vs) (length x.params + length x.captures)
+    then one (eval here x.body (record {
+      scope = inside x;
+      env = holding (param_numbers x ++ numbers_of x.captures) vs [];
+      next = x.first;
+      tail = true;
+      lets = [];
+    })) give
+    else fail T.error (word (codes "undef"))
 
 -- the bindings of a function's parameters that passed-on variables reach
 abbrev pub apart_of : List Param → ℕ → Option Site → List ℕ

@@ -3,16 +3,18 @@ use Rattle.std.specs.Prelude.{ℕ, ◌-◌, List, ◌∷◌, length, take, Bool,
 use Rattle.erl_term.specs.Term.{Term}
 use Rattle.erl_term.specs.Terms.{Values, only}
 use Rattle.world_model.specs.World.{asked}
-use Rattle.world_model.specs.Run.{Note, happened, marked, began, noting, State, gives, M, ◌>>=◌}
+use Rattle.world_model.specs.Run.{Note, happened, marked, began, cut, noting, State, gives, M, ◌>>=◌}
 use Rattle.core_meaning.specs.EvaluationContext.{EvaluationContext, held}
 
--- the last note is that of the marking call; what is no reference is not bound
+-- the last note is that of the marking call, but for sub-binaries, which a run may note above it; what is no reference
+-- is not bound
 abbrev pub last_mark : Term → List Note → State → State
 last_mark t (happened (asked q r) ∷ ns) s = noting (marked (record {
   reference = t;
   serial = s.next - length r.arrivals;
   before = take (length s.mailbox - length r.arrivals) s.mailbox;
 })) s
+last_mark t (cut n ∷ ns) s = last_mark t ns s
 last_mark t _ s = s
 
 -- a let that marks some receive notes what its call returned

@@ -11,7 +11,8 @@ use Rattle.world_model.specs.Run.{Entry, Looked, Outcome, gives}
 use Rattle.core_meaning.specs.CoreRun.{Result}
 use Rattle.kernel_form.specs.Kernel as K
 use Rattle.kernel_form.specs.Kernel.{Value, var, lit, Expr, values, simple, let_in, match_in, receive, Tree, body, fall, either_in, switch, segments, step, guarded, Cases, no_case, and_case, case, SegRows, no_row, and_row, seg_row, Segs, no_seg, and_seg, seg, Seg, Fun, Kernel}
-use Rattle.kernel_meaning.specs.Environment.{Setting, Mark}
+use Rattle.pass_contract.specs.InModule.{Mark}
+use Rattle.kernel_meaning.specs.Environment.{Setting}
 use Rattle.kernel_meaning.specs.KernelRun.{widths, kernel_run}
 
 abbrev int : ℕ → Term

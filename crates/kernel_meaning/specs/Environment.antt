@@ -5,6 +5,7 @@ use Rattle.erl_term.specs.Term.{Term}
 use Rattle.erl_term.specs.Terms.{Values}
 use Rattle.world_model.specs.MapUpdate.{Put}
 use Rattle.core_meaning.specs.Evaluation as Core
+use Rattle.pass_contract.specs.InModule.{Mark}
 use Rattle.kernel_form.specs.Kernel.{Value, var, lit, MapPair, Part}
 
 -- the term that each variable holds
@@ -58,11 +59,6 @@ abbrev pub read_parts : Env → List Part → List Core.BuiltSegment
 read_parts env [] = []
 read_parts env (p ∷ ps) =
     record { shape = p.shape; value = read env p.value; size = read env p.size } ∷ read_parts env ps
-
--- a receive, by its number, and the variable whose reference its messages hold
-pub record Mark : Type 0 where
-  pub receive : ℕ
-  pub reference : ℕ
 
 -- what is set for a module: how many parameters each function has, by its site; which receives and let-bound calls are
 -- noted as marks; and the variables whose part of a binary is handed on and makes no sub-binary

@@ -6,7 +6,7 @@ use Rattle.erl_term.specs.Term as T
 use Rattle.erl_term.specs.Term.{Term}
 use Rattle.erl_term.specs.TermOrder.{same_term}
 use Rattle.erl_term.specs.Terms.{listed}
-use Rattle.bif_table.specs.Builtins.{arity_of}
+use Rattle.bif_table.specs.Builtins.{arity_of, is_guard}
 use Rattle.world_model.specs.RemoteCalls.{takes}
 use Rattle.kernel_form.specs.Kernel.{Value, var, lit, MapPair, Part, Simple, value, cons, tuple, map_put, bits, make_fun, bif, local, apply, remote, send, trace, raise, failing, any, bind, known, Seg, seg, Segs, no_seg, and_seg, CaseShape, is, is_cons, is_tuple, map_has, BinStep, start, integer, take_bits, done, mark, back, Expr, values, simple, let_in, match_in, try, catch, receive, Tree, body, fall, either_in, switch, segments, step, guarded, case, Cases, no_case, and_case, seg_row, SegRows, no_row, and_row, Fun}
 use Rattle.kernel_meaning.specs.Environment.{width}
@@ -184,11 +184,12 @@ abbrev mutual
   rows_scoped (and_row (seg_row ss t) rs) xs cs strict ks =
       segs_scoped xs ss && tree_scoped t (bound_by_segs ss ++ xs) cs strict ks && rows_scoped rs xs cs strict ks
 
--- Calls have as many arguments as their functions have parameters.
+-- Calls have as many arguments as their functions have parameters, and a listed function is one that guards may call:
+-- the others are called as functions of the module erlang.
 
 -- of a simple step, where functions have these many parameters
 abbrev pub simple_fits : List ℕ → Simple → Bool
-simple_fits ws (bif b vs) = eqb (length vs) (arity_of b)
+simple_fits ws (bif b vs) = eqb (length vs) (arity_of b) && is_guard b
 simple_fits ws (local n vs) = takes (slice_get ws n) (length vs)
 simple_fits ws (make_fun n vs) = takes (slice_get ws n) (width ws n) && leb (length vs) (width ws n)
 simple_fits ws _ = true
@@ -286,6 +287,21 @@ abbrev pub has_silent_guard : Tree → Bool
 has_silent_guard (guarded g a b) = everywhere is_silent (λ t. true) g
 has_silent_guard _ = true
 
+-- A guard opens no handler: it stands before a message is taken, where none may open. What raises in it may stand,
+-- since
+-- it does not hold then.
+
+-- of a node
+abbrev pub opens_none : Expr → Bool
+opens_none (try a xs b ys c) = false
+opens_none (catch a) = false
+opens_none _ = true
+
+-- of a node: each node of its guard
+abbrev pub has_plain_guard : Tree → Bool
+has_plain_guard (guarded g a b) = everywhere opens_none (λ t. true) g
+has_plain_guard _ = true
+
 -- all distinct
 abbrev pub Distinct : List ℕ → Type 0
 Distinct [] = Unit {0}
@@ -304,6 +320,7 @@ pub record WellFormed (ws : List ℕ) (f : Fun) : Type 0 where
   pub switches : IsTrue (everywhere (λ e. true) switch_fits f.body)
   pub steps : IsTrue (everywhere (λ e. true) is_by_steps f.body)
   pub guards : IsTrue (everywhere (λ e. true) has_silent_guard f.body)
+  pub plain_guards : IsTrue (everywhere (λ e. true) has_plain_guard f.body)
   -- the variables of a receive's window have registers of their own
   pub windows : IsTrue (everywhere window_fits (λ t. true) f.body)
   -- its receives have numbers of their own

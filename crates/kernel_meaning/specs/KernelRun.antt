@@ -135,10 +135,14 @@ clauses_do w here (x ∷ xs) vs env tail =
           (clauses_do w here xs vs env tail)
     ])
 
--- what a function does with arguments, whatever the other functions are
+-- what a function does with arguments, whatever the other functions are; with another number of terms than it has
+-- parameters it does what one does that is not there
 unfoldable pub fun_does : Setting → Fun → BodyMeaning
 unfolding meaning
-fun_does w f here vs = one (meaning w here f.body (with_values no_values f.params vs) true) give
+fun_does w f here vs =
+    if eqb (length vs) (length f.params)
+    then one (meaning w here f.body (with_values no_values f.params vs) true) give
+    else fail T.error (word (codes "undef"))
 
 -- Modules.
 

@@ -5,5 +5,8 @@ pub mod KernelRun
 pub mod Agreement
 pub mod Walks
 pub mod Windows
+pub mod Wanted
+pub mod Literals
+pub mod Forms
 pub mod KernelPredicate
 pub mod TreeContract

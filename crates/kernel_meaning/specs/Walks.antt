@@ -1,9 +1,6 @@
 -- What stands in a body, collected in the order of its nodes.
 use Rattle.std.specs.Prelude.{ℕ, List, [], ◌∷◌, ◌++◌}
-use Rattle.kernel_form.specs.Kernel.{remote, bind, Seg, seg, Segs, no_seg, and_seg, BinStep, start, integer, take_bits, done, mark, back, Expr, values, simple, let_in, match_in, try, catch, receive, Tree, body, fall, either_in, switch, segments, step, guarded, Case, case, Cases, no_case, and_case, SegRow, seg_row, SegRows, no_row, and_row, Fun}
-use Rattle.kernel_meaning.specs.Environment.{Setting}
-use Rattle.kernel_meaning.specs.KernelRun.{fun_does}
-use Rattle.pass_contract.specs.PassContract.{Form, at_once}
+use Rattle.kernel_form.specs.Kernel.{remote, bind, Seg, seg, Segs, no_seg, and_seg, BinStep, start, integer, take_bits, done, mark, back, Expr, values, simple, let_in, match_in, try, catch, receive, Tree, body, fall, either_in, switch, segments, step, guarded, Case, case, Cases, no_case, and_case, SegRow, seg_row, SegRows, no_row, and_row}
 
 -- what each node has of its own, a node before those in it
 module _ {A : Type 0}
@@ -103,12 +100,3 @@ receives e = gathered number_at nothing nothing nothing e
 -- the let-bound calls of an expression
 abbrev pub let_calls : Expr → List ℕ
 let_calls e = gathered call_at nothing nothing nothing e
-
--- what the contract of passes sees of a function
-abbrev pub form_of : Fun → Form Setting
-form_of f = record {
-  does = λ w. at_once (fun_does w f);
-  receives = receives f.body;
-  calls = let_calls f.body;
-  variables = f.params ++ binders f.body;
-}

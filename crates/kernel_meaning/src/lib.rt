@@ -16,4 +16,7 @@
 
 mod laws;
 
-pub use laws::same_meaning_agrees;
+pub use laws::{
+    core_and_kernel_runs_are_proper, core_runs_mean_the_module, functions_agree_at_nodes,
+    same_meaning_agrees,
+};

@@ -1,1 +1,4 @@
-mod Modules
+pub mod Modules
+pub mod Fitting
+pub mod LawfulSteps
+pub mod LawfulMeanings

@@ -1,2 +1,4 @@
 pub mod SameRun
+pub mod Lawful
+pub mod InModule
 pub mod PassContract

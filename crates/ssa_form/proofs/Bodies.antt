@@ -45,7 +45,7 @@ abbrev pub here0 : Here
 here0 = record { name = codes "m"; own = T.pid 1; enter = λ n vs s. (s, gives (tup vs)) }
 
 abbrev pub around0 : Around
-around0 = record { arities = 1 ∷ []; reached = []; choices = [] }
+around0 = record { arities = 1 ∷ []; reached = []; choices = []; uncounted = [] }
 
 abbrev pub runs : Body → Values → List Reply → Ended
 runs b vs rs = ssa_run around0 here0 b 20 (all_terms vs) [] (start_with rs)

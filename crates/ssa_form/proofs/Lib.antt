@@ -9,10 +9,15 @@ mod BlockSteps
 mod Turns
 mod Cycles
 mod SpotHandlers
-mod RunsEnd
-mod OneResult
+pub mod RunsEnd
+pub mod LawfulOps
+pub mod LawfulRuns
+pub mod OneResult
 mod WholeBodies
 mod LiveSteps
+pub mod TwoStorages
+pub mod TwoRuns
+pub mod TwoBlocks
 mod TwinOps
 mod TwinChains
 mod TwinRuns

@@ -15,7 +15,7 @@ use Rattle.ssa_form.specs.Ssa as Ssa
 use Rattle.ssa_form.specs.Ssa.{Arg, var, lit, Op}
 use Rattle.ssa_form.specs.Checks.{check_holds}
 use Rattle.ssa_form.specs.Storage.{Held, unset, term, context, position, marker, Handler, Frame, After, next, choose, raise, finish, Mode, plain, tail, jump, tests, go_on, if_some}
-use Rattle.ssa_form.specs.Values.{terms_of, parts_of}
+use Rattle.ssa_form.specs.Values.{terms_of, parts_of, part_cuts}
 use Rattle.ssa_form.specs.SetFacts.{is_tests, may_raise, never_raises, is_peek, breaks_cycle}
 use Rattle.ssa_form.specs.Flow.{after_op, opened}
 use Rattle.ssa_form.specs.Operations.{put, collected, gives_held, at_context, answers, created, open_does, close_does, seen, seen_or, looks, peek_does, use_does, on_terms, does}
@@ -215,8 +215,9 @@ module _ {S : Type 0} (w : Walk S) where
         gives_quiet w m false dst (term (segment_value (record x { is_binary = false }) bs)) u w.s0 i))
     does_quiet (Ssa.bs_binary x) args m dst hs h = collected_quiet w m false w.f0 w.s0 _ start (λ g e.
         segment_quiet w m false x hs g w.s0
-        (λ bs u. gives_held w.o w.around w.here m dst (term (T.bits bs)) u (noting (cut 1) w.s0)) e (λ bs u i.
-        gives_quiet w m false dst (term (T.bits bs)) u (noting (cut 1) w.s0)
+        (λ bs u. gives_held w.o w.around w.here m dst (term (T.bits bs)) u
+        (noting (cut (part_cuts w.around.uncounted dst)) w.s0)) e (λ bs u i.
+        gives_quiet w m false dst (term (T.bits bs)) u (noting (cut (part_cuts w.around.uncounted dst)) w.s0)
         (record { low = i.low; handlers = i.handlers; fits = i.fits; falls = i.falls })))
     does_quiet (Ssa.bs_skip x) args m dst hs h =
         segment_quiet w m false x hs w.f0 w.s0 _ start (λ bs u i. asked_quiet w m _ true u w.s0 i)
@@ -224,9 +225,11 @@ module _ {S : Type 0} (w : Walk S) where
     does_quiet (Ssa.bs_unit n) args m dst hs h = at_quiet w m _ w.f0 hs _ (λ v. asked_quiet w m _ _ w.f0 w.s0 start)
     does_quiet Ssa.bs_tail args m dst hs h = collected_quiet w m false w.f0 w.s0
         (λ g. at_context w.o w.around w.here g hs
-        (λ v. put w.o w.around w.here dst (term (T.bits (rest_of v))) g (noting (cut 1) w.s0))) start (λ g e.
+        (λ v. put w.o w.around w.here dst (term (T.bits (rest_of v))) g
+        (noting (cut (part_cuts w.around.uncounted dst)) w.s0))) start (λ g e.
         at_quiet w m false g hs _
-        (λ v. put_quiet w m false dst (term (T.bits (rest_of v))) g (noting (cut 1) w.s0)
+        (λ v. put_quiet w m false dst (term (T.bits (rest_of v))) g
+        (noting (cut (part_cuts w.around.uncounted dst)) w.s0)
         (record { low = e.low; handlers = e.handlers; fits = e.fits; falls = e.falls })))
     does_quiet Ssa.bs_position args m dst hs h = collected_quiet w m false w.f0 w.s0
         (λ g. at_context w.o w.around w.here g hs (λ v. put w.o w.around w.here dst (position v.at) g w.s0)) start

@@ -3,7 +3,7 @@ use Rattle.std.proofs.lemmas.Option.{slice_get_within}
 use Rattle.std.proofs.Common.{◌≡◌, ◌≤◌, ◌<◌, ℕ, zero, suc, ◌+◌, ◌-◌, List, [], ◌∷◌, length, Bool, true, false, not, ◌&&◌, ◌||◌, leb, Option, Some, None, refl, sym, ap, ◌∙◌, arith, eqb, IsTrue, IsFalse, if◌then◌else◌, slice_get}
 use Rattle.erl_term.specs.Term as T
 use Rattle.erl_term.specs.Term.{Term, Class}
-use Rattle.erl_term.specs.Terms.{Values, listed, value_at}
+use Rattle.erl_term.specs.Terms.{Values, listed, only, value_at}
 use Rattle.erl_term.specs.Segments.{Shape}
 use Rattle.bif_table.specs.BuiltinAnswer.{Answer, value, raised}
 use Rattle.world_model.specs.World as W
@@ -19,7 +19,7 @@ use Rattle.step_machine.specs.Frames.{MatchContext}
 use Rattle.ssa_form.specs.Storage.{Held, term, context, position, marker, Handler, Leaving, calls, ends_body, Storage, Frame, After, next, choose, raise, finish, Mode, plain, tail, jump, tests, Around, go_on, when, if_some, outside, inside, kept, in_window}
 use Rattle.ssa_form.specs.Values.{handed, raises_for_sure, puts_of, is_tail}
 use Rattle.ssa_form.specs.SetFacts.{is_tests}
-use Rattle.ssa_form.specs.Operations.{put, collected, forgotten, gives_held, asked, found, answers, leaving, follows, ends_with, calls_by, leaving_of, local_does, remote_does, fun_does, send_does, raise_does, cons_does, map_does, option_held, key_does, element_does, cell_does, fun_made, start_does, with_context, at_context, took, takes_segment, restore_does, take_does, skip_does, waited, waits_for, wait_does, bind_does}
+use Rattle.ssa_form.specs.Operations.{put, collected, forgotten, gives_held, asked, found, answers, leaving, follows, follows_by, ends_with, calls_by, leaving_of, local_does, remote_does, fun_does, send_does, raise_does, cons_does, map_does, option_held, key_does, element_does, cell_does, fun_made, start_does, with_context, at_context, took, takes_segment, restore_does, take_does, skip_does, waited, waits_for, wait_does, bind_does}
 use Rattle.ssa_form.proofs.Rank.{by_left, by_replies, by_mailbox, by_ahead, AtMost, lower, same, most_twice, closed, rank, Fits}
 use Rattle.ssa_form.proofs.OpenHandlers.{Tracks, some_is}
 use Rattle.ssa_form.proofs.Spending.{Uses, entry, reply, nothing, Spends, uses_low, bind_spends, ask_spends, give_spends, send_spends, remote_spends, put_all_stays, raise_again_stays, call_spends, applied_spends}
@@ -266,6 +266,18 @@ module _ {S : Type 0} (w : Walk S) where
   follows_quiet m r dst f (u, waits q) h e = e.low
   follows_quiet m r dst f (u, spent) h e = e.low
 
+  pub follows_by_quiet : (m : Mode) (dst : Option ℕ) (f : Frame S) (p : State × Outcome Values) → Eased f p.0
+      → Q m (not (is_tests m)) (follows_by w.o w.around w.here m dst f p)
+  follows_by_quiet (tests t) dst f (u, gives vs) e =
+      then_quiet (tests t) false (put w.o w.around w.here dst (term (only vs)) f u) _
+      (put_only dst (term (only vs)) f u e) (λ g v i. (refl, i))
+  follows_by_quiet (tests t) dst f (u, raises c x) e = (refl, e)
+  follows_by_quiet (tests t) dst f (u, waits q) e = e.low
+  follows_by_quiet (tests t) dst f (u, spent) e = e.low
+  follows_by_quiet plain dst f p e = follows_quiet plain true dst f p (λ c y q. refl) e
+  follows_by_quiet tail dst f p e = follows_quiet tail true dst f p (λ c y q. refl) e
+  follows_by_quiet jump dst f p e = follows_quiet jump true dst f p (λ c y q. refl) e
+
   pub ends_quiet : (m : Mode) (r : Bool) (p : State × Outcome Values) → p.0.left ≤ w.s0.left
       → Q m r (ends_with w.o w.around w.here p)
   ends_quiet m r (u, gives vs) l = l
@@ -340,9 +352,9 @@ module _ {S : Type 0} (w : Walk S) where
   cons_quiet m r dst (t ∷ u ∷ v ∷ vs) f s e = tt
 
   pub map_quiet : (m : Mode) (exact : Bool) (dst : Option ℕ) (vs : Values) (f : Frame S) (s : State) → Eased f s
-      → Q m true (map_does w.o w.around w.here exact dst vs f s)
-  map_quiet m exact dst (t ∷ vs) f s e = some_quiet m true (puts_of exact vs) _
-      (λ qs p. follows_quiet m true dst f (put_all qs t s) (λ c y q. refl) (rw (put_all_stays qs t s) e))
+      → Q m (not (is_tests m)) (map_does w.o w.around w.here exact m dst vs f s)
+  map_quiet m exact dst (t ∷ vs) f s e = some_quiet m (not (is_tests m)) (puts_of exact vs) _
+      (λ qs p. follows_by_quiet m dst f (put_all qs t s) (rw (put_all_stays qs t s) e))
   map_quiet m exact dst [] f s e = tt
 
   pub key_quiet : (m : Mode) (r : Bool) (dst : Option ℕ) (vs : Values) (f : Frame S) (s : State) → Eased f s

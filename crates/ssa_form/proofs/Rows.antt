@@ -8,13 +8,13 @@ use Rattle.world_model.specs.World as W
 use Rattle.world_model.specs.World.{Reply, Happening, asked}
 use Rattle.world_model.specs.Run.{State, Looked, Outcome, gives, raises, happenings, looks, numbered}
 use Rattle.step_machine.specs.Bodies.{Here}
-use Rattle.ssa_form.specs.Ssa.{var, lit, is_tagged_tuple, bif, element, check, make_fun, call_fun, call_remote, send, bs_create, peek, take_message, skip_message, wait, reset, reserve, bind, use_marker, FrameAction, allocate, deallocate, set, br, succeeded, switch, ret, Body}
+use Rattle.ssa_form.specs.Ssa.{var, lit, is_tagged_tuple, bif, element, check, make_fun, call_fun, call_remote, send, bs_create, peek, take_message, skip_message, wait, reset, reserve, bind, use_marker, FrameAction, allocate, set, br, succeeded, switch, ret, Body}
 use Rattle.ssa_form.specs.Storage.{Around, Ended, done}
 use Rattle.ssa_form.specs.Spots.{x_reg, y_slot, Spots}
 use Rattle.ssa_form.specs.SsaRun.{all_terms, ssa_run}
 use Rattle.ssa_form.specs.PlacedRun.{placed_run}
 use Rattle.ssa_form.specs.FramedRun.{framed_run}
-use Rattle.ssa_form.proofs.Bodies.{A, I, tup, to, plain_block, acting, ending, body_of, ok, start_with, runs, placed, framed, outcome, gives_term, byte_shape}
+use Rattle.ssa_form.proofs.Bodies.{A, I, tup, to, plain_block, acting, body_of, ok, start_with, runs, placed, framed, outcome, gives_term, byte_shape}
 
 -- what a run shows, in its order
 pub record Shown : Type 0 where
@@ -35,10 +35,10 @@ shown (done s r) = Some (record {
 shown _ = None
 
 -- let <R> = call 'erlang':'monitor'('process',P) in receive <{'DOWN',M,'process',Q,W}> when M =:= R -> W after
--- 'infinity' -> 'true', with its marker; where there are frames, this action is done before a value ends the body
+-- 'infinity' -> 'true', with its marker
 
-abbrev marked : List FrameAction → Body
-marked acts = body_of (0 ∷ []) (
+abbrev marked : Body
+marked = body_of (0 ∷ []) (
     plain_block (set (Some 1) reserve []
     ∷ set (Some 2) call_remote (A (codes "erlang") ∷ A (codes "monitor") ∷ A (codes "process") ∷ var 0 ∷ [])
     ∷ set None bind (var 1 ∷ var 2 ∷ []) ∷ []) (to 1)
@@ -49,8 +49,8 @@ marked acts = body_of (0 ∷ []) (
     (br (var 5) 7 5)
     ∷ plain_block (set None skip_message [] ∷ []) (to 2)
     ∷ plain_block (set None wait (A (codes "infinity") ∷ []) ∷ []) (succeeded 3 2 8)
-    ∷ ending (set None take_message [] ∷ set (Some 6) (element 4) (var 3 ∷ []) ∷ []) acts (ret (var 6))
-    ∷ ending (set None reset [] ∷ []) acts (ret (A (codes "true")))
+    ∷ plain_block (set None take_message [] ∷ set (Some 6) (element 4) (var 3 ∷ []) ∷ []) (ret (var 6))
+    ∷ plain_block (set None reset [] ∷ []) (ret (A (codes "true")))
     ∷ [])
 
 abbrev marked_spots : Spots
@@ -80,7 +80,7 @@ abbrev module_w : Here
 module_w = record { name = codes "w"; own = T.pid 1; enter = λ n vs s. (s, gives T.nil) }
 
 abbrev with_choices : List Bool → Around
-with_choices cs = record { arities = 1 ∷ []; reached = []; choices = cs }
+with_choices cs = record { arities = 1 ∷ []; reached = []; choices = cs; uncounted = [] }
 
 abbrev takes_the_thousandth : List Looked → Option Shown
 takes_the_thousandth ls = Some (record {
@@ -93,19 +93,19 @@ takes_the_thousandth ls = Some (record {
 one_look : List Looked
 one_look = record { serial = 1000; accepted = true } ∷ []
 
-marked_in_variables : shown (ssa_run (with_choices []) module_w (marked []) 20 (all_terms (T.pid 7 ∷ [])) [] waiting)
+marked_in_variables : shown (ssa_run (with_choices []) module_w marked 20 (all_terms (T.pid 7 ∷ [])) [] waiting)
     ≡ takes_the_thousandth one_look
 unfolding ssa_run one_look
 marked_in_variables = refl
 
-marked_in_spots : shown (placed_run (with_choices []) module_w (record { body = marked []; spots = marked_spots }) 20
+marked_in_spots : shown (placed_run (with_choices []) module_w (record { body = marked; spots = marked_spots }) 20
     (all_terms (T.pid 7 ∷ [])) [] waiting) ≡ takes_the_thousandth one_look
 unfolding placed_run one_look
 marked_in_spots = refl
 
 marked_in_frames : shown
     (framed_run (with_choices []) module_w
-    (record { body = marked (deallocate 2 ∷ []); spots = marked_spots; sizes = marked_sizes }) 20
+    (record { body = marked; spots = marked_spots; sizes = marked_sizes }) 20
     (all_terms (T.pid 7 ∷ [])) [] waiting) ≡ takes_the_thousandth one_look
 unfolding framed_run one_look
 marked_in_frames = refl
@@ -117,28 +117,28 @@ examined (done s r) = length (looks s.notes)
 examined _ = 0
 
 forgotten_in_variables : examined
-    (ssa_run (with_choices (false ∷ [])) module_w (marked []) 4000 (all_terms (T.pid 7 ∷ [])) [] waiting) ≡ 1001
+    (ssa_run (with_choices (false ∷ [])) module_w marked 4000 (all_terms (T.pid 7 ∷ [])) [] waiting) ≡ 1001
 unfolding ssa_run
 forgotten_in_variables = refl
 
 forgotten_in_spots : examined
-    (placed_run (with_choices (false ∷ [])) module_w (record { body = marked []; spots = marked_spots }) 4000
+    (placed_run (with_choices (false ∷ [])) module_w (record { body = marked; spots = marked_spots }) 4000
     (all_terms (T.pid 7 ∷ [])) [] waiting) ≡ 1001
 unfolding placed_run
 forgotten_in_spots = refl
 
 forgotten_in_frames : examined
     (framed_run (with_choices (false ∷ [])) module_w
-    (record { body = marked (deallocate 2 ∷ []); spots = marked_spots; sizes = marked_sizes }) 4000
+    (record { body = marked; spots = marked_spots; sizes = marked_sizes }) 4000
     (all_terms (T.pid 7 ∷ [])) [] waiting) ≡ 1001
 unfolding framed_run
 forgotten_in_frames = refl
 
 -- 'f'/2 = fun (P,X) -> do call 'erlang':'!'(P,fun (Y) -> {Y,X}) 'ok', where the fun is function 1
 
-abbrev sends : List FrameAction → Body
-sends acts = body_of (0 ∷ 1 ∷ []) (
-    ending (set (Some 2) (make_fun 1) (var 1 ∷ []) ∷ set (Some 3) send (var 0 ∷ var 2 ∷ []) ∷ []) acts
+abbrev sends : Body
+sends = body_of (0 ∷ 1 ∷ []) (
+    plain_block (set (Some 2) (make_fun 1) (var 1 ∷ []) ∷ set (Some 3) send (var 0 ∷ var 2 ∷ []) ∷ [])
     (ret (A (codes "ok"))) ∷ [])
 
 abbrev sends_spots : Spots
@@ -148,7 +148,7 @@ abbrev module_snd : Here
 module_snd = record { name = codes "snd"; own = T.pid 1; enter = λ n vs s. (s, gives T.nil) }
 
 abbrev around_snd : Around
-around_snd = record { arities = 2 ∷ 2 ∷ []; reached = []; choices = [] }
+around_snd = record { arities = 2 ∷ 2 ∷ []; reached = []; choices = []; uncounted = [] }
 
 abbrev sent : Option Shown
 sent = Some (record {
@@ -158,17 +158,17 @@ sent = Some (record {
 })
 
 sends_in_variables : shown
-    (ssa_run around_snd module_snd (sends []) 20 (all_terms (T.pid 2 ∷ I 7 ∷ [])) [] (start_with (ok [] ∷ []))) ≡ sent
+    (ssa_run around_snd module_snd sends 20 (all_terms (T.pid 2 ∷ I 7 ∷ [])) [] (start_with (ok [] ∷ []))) ≡ sent
 unfolding ssa_run
 sends_in_variables = refl
 
-sends_in_spots : shown (placed_run around_snd module_snd (record { body = sends []; spots = sends_spots }) 20
+sends_in_spots : shown (placed_run around_snd module_snd (record { body = sends; spots = sends_spots }) 20
     (all_terms (T.pid 2 ∷ I 7 ∷ [])) [] (start_with (ok [] ∷ []))) ≡ sent
 unfolding placed_run
 sends_in_spots = refl
 
 sends_in_frames : shown (framed_run around_snd module_snd
-    (record { body = sends (deallocate 0 ∷ []); spots = sends_spots; sizes = (0, 0) ∷ [] }) 20
+    (record { body = sends; spots = sends_spots; sizes = (0, 0) ∷ [] }) 20
     (all_terms (T.pid 2 ∷ I 7 ∷ [])) [] (start_with (ok [] ∷ []))) ≡ sent
 unfolding framed_run
 sends_in_frames = refl
@@ -176,10 +176,10 @@ sends_in_frames = refl
 -- By a literal: a fun is called, which needs a frame there and nowhere else; a bit string is made; else the argument is
 -- given back.
 
-abbrev chooses : List FrameAction → List FrameAction → Body
-chooses first acts = body_of (0 ∷ 1 ∷ []) (
+abbrev chooses : List FrameAction → Body
+chooses first = body_of (0 ∷ 1 ∷ []) (
     plain_block [] (switch (var 0) 3 ((T.atom (codes "call"), 1) ∷ (T.atom (codes "bits"), 2) ∷ []))
-    ∷ ending (acting first (set (Some 2) call_fun (lit (T.fun (codes "m") 0 1 none) ∷ var 1 ∷ [])) ∷ []) acts
+    ∷ plain_block (acting first (set (Some 2) call_fun (lit (T.fun (codes "m") 0 1 none) ∷ var 1 ∷ [])) ∷ [])
     (ret (var 2))
     ∷ plain_block (set (Some 3) (bs_create (byte_shape ∷ byte_shape ∷ []))
     (var 1 ∷ lit (I 1) ∷ lit (I 255) ∷ lit (I 1) ∷ []) ∷ []) (ret (var 3))
@@ -190,18 +190,18 @@ abbrev chooses_spots : Spots
 chooses_spots = (0, x_reg 0) ∷ (1, x_reg 1) ∷ (2, x_reg 0) ∷ (3, x_reg 0) ∷ []
 
 abbrev in_frames : Values → Ended
-in_frames vs = framed (chooses (allocate 0 ∷ []) (deallocate 0 ∷ [])) chooses_spots [] vs []
+in_frames vs = framed (chooses (allocate 0 ∷ [])) chooses_spots [] vs []
 
 abbrev five_and_all : Term
 five_and_all = T.bits (false ∷ false ∷ false ∷ false ∷ false ∷ true ∷ false ∷ true ∷ true ∷ true ∷ true ∷ true ∷ true
     ∷ true ∷ true ∷ true ∷ [])
 
-fun_called_in_variables : outcome (runs (chooses [] []) (T.atom (codes "call") ∷ I 4 ∷ []) [])
+fun_called_in_variables : outcome (runs (chooses []) (T.atom (codes "call") ∷ I 4 ∷ []) [])
     ≡ gives_term (tup (I 4 ∷ []))
 unfolding ssa_run
 fun_called_in_variables = refl
 
-fun_called_in_spots : outcome (placed (chooses [] []) chooses_spots (T.atom (codes "call") ∷ I 4 ∷ []) [])
+fun_called_in_spots : outcome (placed (chooses []) chooses_spots (T.atom (codes "call") ∷ I 4 ∷ []) [])
     ≡ gives_term (tup (I 4 ∷ []))
 unfolding placed_run
 fun_called_in_spots = refl
@@ -210,15 +210,15 @@ fun_called_in_frames : outcome (in_frames (T.atom (codes "call") ∷ I 4 ∷ [])
 unfolding framed_run
 fun_called_in_frames = refl
 
-fun_called_without_a_frame : framed (chooses [] []) chooses_spots [] (T.atom (codes "call") ∷ I 4 ∷ []) [] ≡ Ended.bad
+fun_called_without_a_frame : framed (chooses []) chooses_spots [] (T.atom (codes "call") ∷ I 4 ∷ []) [] ≡ Ended.bad
 unfolding framed_run
 fun_called_without_a_frame = refl
 
-bits_made_in_variables : outcome (runs (chooses [] []) (T.atom (codes "bits") ∷ I 5 ∷ []) []) ≡ gives_term five_and_all
+bits_made_in_variables : outcome (runs (chooses []) (T.atom (codes "bits") ∷ I 5 ∷ []) []) ≡ gives_term five_and_all
 unfolding ssa_run
 bits_made_in_variables = refl
 
-bits_made_in_spots : outcome (placed (chooses [] []) chooses_spots (T.atom (codes "bits") ∷ I 5 ∷ []) [])
+bits_made_in_spots : outcome (placed (chooses []) chooses_spots (T.atom (codes "bits") ∷ I 5 ∷ []) [])
     ≡ gives_term five_and_all
 unfolding placed_run
 bits_made_in_spots = refl
@@ -233,11 +233,11 @@ no_bits_in_frames : outcome (in_frames (T.atom (codes "bits") ∷ T.nil ∷ []))
 unfolding framed_run
 no_bits_in_frames = refl
 
-given_back_in_variables : outcome (runs (chooses [] []) (T.nil ∷ I 5 ∷ []) []) ≡ gives_term (I 5)
+given_back_in_variables : outcome (runs (chooses []) (T.nil ∷ I 5 ∷ []) []) ≡ gives_term (I 5)
 unfolding ssa_run
 given_back_in_variables = refl
 
-given_back_in_spots : outcome (placed (chooses [] []) chooses_spots (T.nil ∷ I 5 ∷ []) []) ≡ gives_term (I 5)
+given_back_in_spots : outcome (placed (chooses []) chooses_spots (T.nil ∷ I 5 ∷ []) []) ≡ gives_term (I 5)
 unfolding placed_run
 given_back_in_spots = refl
 

@@ -1,16 +1,18 @@
 -- Small bodies, run.
-use Rattle.std.proofs.Common.{◌≡◌, ℕ, List, [], ◌∷◌, true, false, Some, None, refl, codes}
+use Rattle.std.proofs.Common.{◌≡◌, ℕ, List, [], ◌∷◌, Bool, true, false, ◌||◌, Some, None, refl, codes}
 use Rattle.erl_term.specs.Term as T
 use Rattle.erl_term.specs.Term.{Term}
+use Rattle.erl_term.specs.Terms.{tagged}
 use Rattle.bif_table.specs.Builtins as B
 use Rattle.world_model.specs.World as W
 use Rattle.world_model.specs.World.{asked, millis}
 use Rattle.world_model.specs.Run as Run
-use Rattle.world_model.specs.Run.{gives, raises, happenings, State, Outcome, waits}
-use Rattle.ssa_form.specs.Ssa.{var, lit, bif, tuple, call_local, bs_start, bs_integer, bs_tail, peek, skip_message, set, succeeded, ret, Body}
-use Rattle.ssa_form.specs.Storage.{Ended, done}
-use Rattle.ssa_form.specs.SsaRun.{ssa_run}
-use Rattle.ssa_form.proofs.Bodies.{A, I, tup, to, plain_block, body_of, ok, start_with, runs, outcome, gives_term, receive_loop, branch, head_or, tried, caught, calls_once, byte_shape}
+use Rattle.world_model.specs.Run.{gives, raises, happenings, sub_binaries, State, Outcome, waits}
+use Rattle.ssa_form.specs.Ssa.{var, lit, bif, tuple, map_put, call_local, bs_start, bs_integer, bs_tail, peek, take_message, skip_message, wait, set, succeeded, ret, Body}
+use Rattle.ssa_form.specs.Storage.{Ended, done, tests}
+use Rattle.ssa_form.specs.SetFacts.{may_raise, may_ask}
+use Rattle.ssa_form.specs.SsaRun.{all_terms, ssa_run}
+use Rattle.ssa_form.proofs.Bodies.{A, I, tup, to, plain_block, body_of, ok, start_with, here0, around0, runs, outcome, gives_term, receive_loop, branch, head_or, tried, caught, calls_once, byte_shape}
 
 abbrev word : List ℕ → Term
 word a = T.atom a
@@ -149,3 +151,66 @@ raise_in_the_window : runs (body_of [] (
     [] (ok (I 1 ∷ []) ∷ []) ≡ Ended.bad
 unfolding ssa_run
 raise_in_the_window = refl
+
+-- receive M when (M#{'k' := 1}) is a map -> that map: a map update that the last tests does not raise
+
+abbrev updates : Bool → Body
+updates exact = body_of [] (
+    plain_block [] (to 1)
+    ∷ plain_block (set (Some 1) (peek 0) [] ∷ []) (succeeded 1 2 5)
+    ∷ plain_block (set (Some 2) (map_put exact) (var 1 ∷ A (codes "k") ∷ lit (I 1) ∷ []) ∷ []) (succeeded 2 3 4)
+    ∷ plain_block (set None take_message [] ∷ []) (ret (var 2))
+    ∷ plain_block (set None skip_message [] ∷ []) (to 1)
+    ∷ plain_block (set None wait (A (codes "infinity") ∷ []) ∷ []) (succeeded 1 1 1)
+    ∷ [])
+
+abbrev key_is : ℕ → Term
+key_is n = T.map (T.pair (word (codes "k")) (I n) T.no_pair)
+
+guard_updates_a_map : outcome (runs (updates true) [] (ok (I 7 ∷ T.map T.no_pair ∷ key_is 0 ∷ []) ∷ []))
+    ≡ gives_term (key_is 1)
+unfolding ssa_run
+guard_updates_a_map = refl
+
+guard_puts_into_a_map : outcome (runs (updates false) [] (ok (I 7 ∷ T.map T.no_pair ∷ []) ∷ [])) ≡ gives_term (key_is 1)
+unfolding ssa_run
+guard_puts_into_a_map = refl
+
+-- so it stands in a window
+tested_update_is_quiet : (e : ℕ) → (may_raise (tests e) (map_put true) || may_ask (map_put true)) ≡ false
+tested_update_is_quiet e = refl
+
+-- an update that is not tested raises
+abbrev updated : Body
+updated = body_of (0 ∷ [])
+    (plain_block (set (Some 1) (map_put true) (var 0 ∷ A (codes "k") ∷ lit (I 1) ∷ []) ∷ []) (ret (var 1)) ∷ [])
+
+update_of_no_map_raises : outcome (runs updated (I 7 ∷ []) [])
+    ≡ done (start_with []) (raises T.error (tagged (codes "badmap") (I 7)))
+unfolding ssa_run
+update_of_no_map_raises = refl
+
+-- a part that is handed on counts as no sub-binary
+
+abbrev splits : Body
+splits = body_of (0 ∷ []) (
+    plain_block (set (Some 1) bs_start (var 0 ∷ []) ∷ []) (succeeded 1 1 2)
+    ∷ plain_block (set (Some 2) bs_tail (var 1 ∷ []) ∷ []) (ret (var 2))
+    ∷ plain_block [] (ret (var 0))
+    ∷ [])
+
+abbrev cuts_of : Ended → ℕ
+cuts_of (done s r) = sub_binaries s.notes
+cuts_of _ = 9
+
+abbrev made : List ℕ → ℕ
+made vs = cuts_of
+    (ssa_run (record around0 { uncounted = vs }) here0 splits 20 (all_terms (T.bits [] ∷ [])) [] (start_with []))
+
+counted_part : made [] ≡ 1
+unfolding ssa_run
+counted_part = refl
+
+handed_part : made (2 ∷ []) ≡ 0
+unfolding ssa_run
+handed_part = refl

@@ -214,15 +214,18 @@ module _ (spots : Spots) (sizes : List (ℕ × ℕ)) where
   in_any_frame None st u e = absurd (none_is u e)
   in_any_frame (Some ys) st u e = ap open_tags (sym (some_is st u e))
 
-  without_frame : (f : Option (List Cell)) (st u : Stack) → elim f [ None ↦ Some st | Some ys ↦ None ] ≡ Some u
+  frame_goes : (f : Option (List Cell)) (st u : Stack) → f ≡ st.frame
+      → elim f [ None ↦ Some st | Some ys ↦ only_if (no_tags tag_in ys) (record st { frame = None }) ] ≡ Some u
       → open_tags u ≡ open_tags st
-  without_frame None st u e = ap open_tags (sym (some_is st u e))
-  without_frame (Some ys) st u e = absurd (none_is u e)
+  frame_goes None st u p e = ap open_tags (sym (some_is st u e))
+  frame_goes (Some ys) st u p e = let q : (no_tags tag_in ys ≡ true) × (record st { frame = None } ≡ u) =
+      only_some _ _ u e in
+      ap open_tags (sym q.1) ∙ sym (none_tagged ys q.0) ∙ ap frame_tags p
 
   stack_leave : (l : Leaving) (st u : Stack) → Framed.stack_leaves spots sizes l st ≡ Some u
       → open_tags u ≡ open_tags st
   stack_leave calls st u e = in_any_frame st.frame st u e
-  stack_leave ends_body st u e = without_frame st.frame st u e
+  stack_leave ends_body st u e = frame_goes st.frame st u refl e
   stack_leave always_raises st u e = ap open_tags (sym (some_is st u e))
 
   slot_opened : (h : Handler) (n : ℕ) (ys zs : List Cell)

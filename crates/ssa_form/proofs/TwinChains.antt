@@ -21,7 +21,8 @@ use Rattle.ssa_form.proofs.Rank.{Fits}
 use Rattle.ssa_form.proofs.OpenHandlers.{vars_track, some_is}
 use Rattle.ssa_form.proofs.OpSteps.{picked_handlers, Steps}
 use Rattle.ssa_form.proofs.ChainSteps.{Tested, tested_by, untested, From, tail_from, head_there, set_steps}
-use Rattle.ssa_form.proofs.TwinOps.{fr, Like, Wrote, Both, both_on, both_pick, both_up, both_over, both_bad, writes, does_both}
+use Rattle.ssa_form.proofs.TwoStorages.{writes}
+use Rattle.ssa_form.proofs.TwinOps.{fr, Like, Wrote, Both, both_on, both_pick, both_up, both_over, both_bad, does_both}
 
 -- Lists of variables.
 

@@ -1,11 +1,11 @@
 -- What a body does whose variables have spots and whose blocks have stack frames. Beside what is wrong with spots
 -- alone, a missing or a wrong frame, and an unset slot where the run may collect, are broken rules.
-use Rattle.std.specs.Prelude.{◌≡◌, ℕ, zero, suc, ◌+◌, ◌-◌, List, [], ◌∷◌, length, slice_get, set, take, drop, replicate, Bool, true, false, not, ◌&&◌, ltb, leb, eqb, Option, Some, None, if◌then◌else◌}
+use Rattle.std.specs.Prelude.{◌≡◌, ℕ, suc, ◌+◌, ◌-◌, List, [], ◌∷◌, length, slice_get, set, take, drop, replicate, Bool, true, false, not, ◌&&◌, ltb, leb, eqb, Option, Some, None, if◌then◌else◌}
 use Rattle.erl_term.specs.Term.{Term}
 use Rattle.erl_term.specs.Terms.{Values}
 use Rattle.world_model.specs.Run.{State, Outcome}
 use Rattle.step_machine.specs.Bodies.{Here}
-use Rattle.step_machine.specs.Frames.{MatchContext, with_register, in_frame, no_frame, is_tag, lowest_tag, no_tags}
+use Rattle.step_machine.specs.Frames.{MatchContext, with_register, in_frame, is_tag, lowest_tag, no_tags}
 use Rattle.ssa_form.specs.Ssa.{Body, FrameAction, allocate, deallocate, kill, trim}
 use Rattle.ssa_form.specs.Storage.{Held, Handler, Leaving, calls, ends_body, always_raises, Storage, Ended, done, Around}
 use Rattle.ssa_form.specs.Spots.{Spot, x_reg, y_slot, Spots, spot_of, slot_count, Cell, empty, killed, own, tag, nothing, tag_in, is_tag_of, held_in}
@@ -113,10 +113,11 @@ module _ (spots : Spots) (sizes : List (ℕ × ℕ)) where
   close_in v (Some (y_slot n)) st = in_frame None st.frame λ ys. with_frame st (close_slot v (index_of n ys) ys)
   close_in v _ st = None
 
-  -- calls need a frame, the end of a body none
+  -- a call needs a frame; where a body ends its frame goes, whose slots hold no tag
   abbrev pub stack_leaves : Leaving → Stack → Option Stack
   stack_leaves calls st = in_frame None st.frame λ ys. Some st
-  stack_leaves ends_body st = no_frame None st.frame (Some st)
+  stack_leaves ends_body st =
+      elim st.frame [ None ↦ Some st | Some ys ↦ only_if (no_tags tag_in ys) (record st { frame = None }) ]
   stack_leaves always_raises st = Some st
 
   -- no slot is empty where the run collects

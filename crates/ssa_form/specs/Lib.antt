@@ -9,6 +9,7 @@ pub mod SsaRun
 pub mod Spots
 pub mod PlacedRun
 pub mod FramedRun
+pub mod FrameActions
 pub mod SetFacts
 pub mod Flow
 pub mod Liveness

@@ -24,7 +24,7 @@ use Rattle.ssa_form.specs.Ssa.{Arg, var, lit, Op}
 use Rattle.bif_table.specs.TermTests.{compare_holds}
 use Rattle.ssa_form.specs.Checks.{check_holds, has_keys}
 use Rattle.ssa_form.specs.Storage.{Held, unset, term, context, position, marker, Leaving, calls, ends_body, always_raises, Storage, Frame, After, next, choose, raise, finish, bad, Mode, plain, tail, jump, tests, Around, in_window, go_on, when, if_some, outside, inside, kept}
-use Rattle.ssa_form.specs.Values.{terms_of, handed, raises_for_sure, puts_of, parts_of, is_tail}
+use Rattle.ssa_form.specs.Values.{terms_of, handed, raises_for_sure, puts_of, parts_of, is_tail, part_cuts}
 
 module _ {S : Type 0} (o : Storage S) (around : Around) (here : Here) where
   -- what an operand holds
@@ -86,6 +86,18 @@ module _ {S : Type 0} (o : Storage S) (around : Around) (here : Here) where
   follows dst f (s, waits q) = finish s (waits q)
   follows dst f (s, spent) = finish s spent
 
+  -- the same where the last tests it: a raise is no raise
+  abbrev pub succeeds : Option ℕ → Frame S → State × Outcome Values → After S
+  succeeds dst f (s, gives vs) = go_on (put dst (term (only vs)) f s) (choose true)
+  succeeds dst f (s, raises c r) = choose false f s
+  succeeds dst f (s, waits q) = finish s (waits q)
+  succeeds dst f (s, spent) = finish s spent
+
+  -- by the mode
+  abbrev pub follows_by : Mode → Option ℕ → Frame S → State × Outcome Values → After S
+  follows_by (tests e) dst f r = succeeds dst f r
+  follows_by _ dst f r = follows dst f r
+
   -- the same where it ends the body
   abbrev pub ends_with : State × Outcome Values → After S
   ends_with (s, gives vs) = finish s (gives (only vs))
@@ -138,10 +150,10 @@ module _ {S : Type 0} (o : Storage S) (around : Around) (here : Here) where
   cons_does dst (t ∷ u ∷ []) f s = put dst (term (T.cons t u)) f s
   cons_does dst _ f s = bad
 
-  -- pairs are put into a map
-  abbrev pub map_does : Bool → Option ℕ → Values → Frame S → State → After S
-  map_does exact dst (t ∷ vs) f s = if_some (puts_of exact vs) λ qs. follows dst f (put_all qs t s)
-  map_does exact dst [] f s = bad
+  -- pairs are put into a map; under a test what is no map, or a key that is wanted and missing, is no raise
+  abbrev pub map_does : Bool → Mode → Option ℕ → Values → Frame S → State → After S
+  map_does exact mode dst (t ∷ vs) f s = if_some (puts_of exact vs) λ qs. follows_by mode dst f (put_all qs t s)
+  map_does exact mode dst [] f s = bad
 
   -- a value, if there is one
   abbrev pub option_held : Option Term → Option Held
@@ -300,7 +312,7 @@ module _ {S : Type 0} (o : Storage S) (around : Around) (here : Here) where
       else answers mode dst (answer b here.own vs) f s)
   on_terms Ssa.cons mode dst vs f s = collected f λ g. cons_does dst vs g s
   on_terms Ssa.tuple mode dst vs f s = collected f λ g. put dst (term (T.tuple (terms vs))) g s
-  on_terms (Ssa.map_put exact) mode dst vs f s = collected f λ g. map_does exact dst vs g s
+  on_terms (Ssa.map_put exact) mode dst vs f s = collected f λ g. map_does exact mode dst vs g s
   on_terms Ssa.map_get mode dst vs f s = key_does mode dst vs f s
   on_terms (Ssa.element n) mode dst vs f s = element_does n dst vs f s
   on_terms Ssa.hd mode dst vs f s = cell_does true dst vs f s
@@ -332,12 +344,13 @@ module _ {S : Type 0} (o : Storage S) (around : Around) (here : Here) where
   does (Ssa.bs_integer h) as' mode dst hs f s = collected f λ g. takes_segment h mode hs g s λ bs u.
       gives_held mode dst (term (segment_value (record h { is_binary = false }) bs)) u s
   does (Ssa.bs_binary h) as' mode dst hs f s = collected f λ g. takes_segment h mode hs g s λ bs u.
-      gives_held mode dst (term (T.bits bs)) u (noting (cut 1) s)
+      gives_held mode dst (term (T.bits bs)) u (noting (cut (part_cuts around.uncounted dst)) s)
   does (Ssa.bs_skip h) as' mode dst hs f s = takes_segment h mode hs f s λ bs u. asked mode true u s
   does Ssa.bs_done as' mode dst hs f s = at_context f hs λ w. asked mode (eqb (length (rest_of w)) 0) f s
   does (Ssa.bs_unit n) as' mode dst hs f s = at_context f hs λ w. asked mode (eqb (length (rest_of w) % n) 0) f s
   does Ssa.bs_tail as' mode dst hs f s =
-      collected f λ g. at_context g hs λ w. put dst (term (T.bits (rest_of w))) g (noting (cut 1) s)
+      collected f λ g. at_context g hs λ w.
+      put dst (term (T.bits (rest_of w))) g (noting (cut (part_cuts around.uncounted dst)) s)
   does Ssa.bs_position as' mode dst hs f s = collected f λ g. at_context g hs λ w. put dst (position w.at) g s
   does Ssa.bs_restore as' mode dst hs f s = restore_does hs f s
   does Ssa.try_start as' mode dst [] f s = open_does mode dst f s

@@ -1,9 +1,10 @@
 -- The three forms of a body as the contract of every pass sees them.
-use Rattle.std.specs.Prelude.{ℕ, List, [], ◌∷◌, ◌++◌, Option, Some, None}
+use Rattle.std.specs.Prelude.{ℕ, ◌-◌, List, [], ◌∷◌, ◌++◌, map, length, Option, Some, None}
 use Rattle.erl_term.specs.Term.{Term}
 use Rattle.world_model.specs.Run.{State, Outcome}
-use Rattle.pass_contract.specs.PassContract.{Run, Form, HasOneResult}
-use Rattle.ssa_form.specs.Ssa.{Op, call_remote, peek, Set, Block, Body}
+use Rattle.pass_contract.specs.InModule.{InModule}
+use Rattle.pass_contract.specs.PassContract.{Run, fitting, by_site, IsProper, Form}
+use Rattle.ssa_form.specs.Ssa.{Arg, var, lit, Op, call_local, call_fun, call_remote, peek, Set, Last, br, succeeded, switch, ret, Phi, Block, Body}
 use Rattle.ssa_form.specs.Storage.{Around, Ended, done, unfinished}
 use Rattle.ssa_form.specs.SsaRun.{all_terms, ssa_run}
 use Rattle.ssa_form.specs.PlacedRun.{Placed, placed_run}
@@ -17,17 +18,36 @@ result_of (done s q) = Some (s, q)
 result_of Ended.bad = None
 result_of unfinished = None
 
+-- what bodies mind of what is set for a module
+abbrev pub around_in : InModule → Around
+around_in m = record { arities = m.widths; reached = m.plan; choices = m.choices; uncounted = m.uncounted }
+
 -- what a body gives with a value for each variable
 abbrev pub ssa_does : Body → Around → Run
-ssa_does b around = λ here vs s k. result_of (ssa_run around here b k (all_terms vs) [] s)
+ssa_does b around =
+    fitting (length b.params) λ here vs s k. result_of (ssa_run around here b k (all_terms vs) [] s)
 
 -- with spots
 abbrev pub placed_does : Placed → Around → Run
-placed_does p around = λ here vs s k. result_of (placed_run around here p k (all_terms vs) [] s)
+placed_does p around =
+    fitting (length p.body.params) λ here vs s k. result_of (placed_run around here p k (all_terms vs) [] s)
 
 -- with frames
 abbrev pub framed_does : Framed → Around → Run
-framed_does p around = λ here vs s k. result_of (framed_run around here p k (all_terms vs) [] s)
+framed_does p around =
+    fitting (length p.body.params) λ here vs s k. result_of (framed_run around here p k (all_terms vs) [] s)
+
+-- functions by their sites, in each form
+abbrev pub ssa_runs : InModule → List Body → ℕ → Run
+ssa_runs m bs = by_site (λ b. ssa_does b (around_in m)) bs
+
+-- with spots
+abbrev pub placed_runs : InModule → List Placed → ℕ → Run
+placed_runs m ps = by_site (λ p. placed_does p (around_in m)) ps
+
+-- with frames
+abbrev pub framed_runs : InModule → List Framed → ℕ → Run
+framed_runs m ps = by_site (λ p. framed_does p (around_in m)) ps
 
 -- what each set of a body has of its own, in order
 
@@ -52,29 +72,71 @@ abbrev pub call_of : Op → Option ℕ → List ℕ
 call_of call_remote d = dst_vars d
 call_of _ d = []
 
--- a body as passes see it, by what it does
-abbrev pub form_of : (Around → Run) → Body → Form Around
-form_of does b = record {
-  does = does;
+-- the literals of operands
+abbrev pub arg_lits : List Arg → List Term
+arg_lits [] = []
+arg_lits (var v ∷ as') = arg_lits as'
+arg_lits (lit t ∷ as') = t ∷ arg_lits as'
+
+-- of sets in a row
+abbrev pub chain_lits : List Set → List Term
+chain_lits [] = []
+chain_lits (x ∷ xs) = arg_lits x.args ++ chain_lits xs
+
+-- of phis
+abbrev pub phi_lits : List Phi → List Term
+phi_lits [] = []
+phi_lits (p ∷ ps) = arg_lits (map (λ e. e.1) p.from) ++ phi_lits ps
+
+-- of a last
+abbrev pub last_lits : Last → List Term
+last_lits (br a t e) = arg_lits (a ∷ [])
+last_lits (succeeded v t e) = []
+last_lits (switch a d cs) = arg_lits (a ∷ []) ++ map (λ c. c.0) cs
+last_lits (ret a) = arg_lits (a ∷ [])
+
+-- of blocks
+abbrev pub blocks_lits : List (Option Block) → List Term
+blocks_lits [] = []
+blocks_lits (None ∷ os) = blocks_lits os
+blocks_lits (Some x ∷ os) = phi_lits x.phis ++ chain_lits x.chain ++ last_lits x.last ++ blocks_lits os
+
+-- the arguments of a call, beside what is called
+abbrev pub arguments_of : Op → ℕ → List ℕ
+arguments_of (call_local s) n = n ∷ []
+arguments_of call_fun n = (n - 1) ∷ []
+arguments_of call_remote n = (n - 2) ∷ []
+arguments_of op n = []
+
+-- A body as passes see it, by what it does. A body binds all its variables itself, and keeps no number above them: the
+-- next one is said beside it.
+abbrev pub form_of : (Around → Run) → ℕ → Body → Form
+form_of does next b = record {
+  does = λ m. does (around_in m);
+  arity = length b.params;
   receives = gathers (λ x. receive_of x.op) b.blocks;
   calls = gathers (λ x. call_of x.op x.dst) b.blocks;
   variables = b.params ++ blocks_set b.blocks;
+  wanted = 0;
+  next = next;
+  literals = blocks_lits b.blocks;
+  counts = gathers (λ x. arguments_of x.op (length x.args)) b.blocks;
 }
 
 -- of a body
-abbrev pub ssa_form : Body → Form Around
-ssa_form b = form_of (ssa_does b) b
+abbrev pub ssa_form : ℕ → Body → Form
+ssa_form next b = form_of (ssa_does b) next b
 
 -- of one with spots
-abbrev pub placed_form : Placed → Form Around
-placed_form p = form_of (placed_does p) p.body
+abbrev pub placed_form : ℕ → Placed → Form
+placed_form next p = form_of (placed_does p) next p.body
 
 -- of one with frames
-abbrev pub framed_form : Framed → Form Around
-framed_form p = form_of (framed_does p) p.body
+abbrev pub framed_form : ℕ → Framed → Form
+framed_form next p = form_of (framed_does p) next p.body
 
--- a body of each form has at most one result, as composing passes wants
-pub record FormsHaveOneResult : Type 0 where
-  pub ssa : (b : Body) (around : Around) → HasOneResult (ssa_does b around)
-  pub placed : (p : Placed) (around : Around) → HasOneResult (placed_does p around)
-  pub framed : (p : Framed) (around : Around) → HasOneResult (framed_does p around)
+-- the runs of each form have at most one result, which is lawful where what they enter is
+pub record BodiesAreProper : Type 0 where
+  pub ssa : (b : Body) (around : Around) → IsProper (ssa_does b around)
+  pub placed : (p : Placed) (around : Around) → IsProper (placed_does p around)
+  pub framed : (p : Framed) (around : Around) → IsProper (framed_does p around)

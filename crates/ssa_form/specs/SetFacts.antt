@@ -44,6 +44,7 @@ pub data Taking : Type 0 where
 -- how an operation is taken by the last
 abbrev pub taking_of : Op → Taking
 taking_of (bif b) = maybe
+taking_of (map_put exact) = maybe
 taking_of map_get = always
 taking_of (check c) = always
 taking_of bs_start = maybe
@@ -192,7 +193,7 @@ never_raises _ = false
 -- whether a set may raise; one that the last tests raises only where it waits
 abbrev pub may_raise : Mode → Op → Bool
 may_raise mode (bif b) = not (is_tests mode || never_raises b)
-may_raise mode (map_put exact) = true
+may_raise mode (map_put exact) = not (is_tests mode)
 may_raise mode (call_local n) = true
 may_raise mode call_fun = true
 may_raise mode call_remote = true

@@ -67,11 +67,14 @@ pub data Mode : Type 0 where
   tests : ℕ → Mode
 
 -- what is known of the module: how many parameters each function has, captures included; the parameters, as site and
--- number, at which a context may come; and whether each marker that is used is still kept
+-- number, at which a context may come; whether each marker that is used is still kept; and the variables whose part of
+-- a
+-- binary is handed on and counts as no sub-binary
 pub record Around : Type 0 where
   pub arities : List ℕ
   pub reached : List (ℕ × ℕ)
   pub choices : List Bool
+  pub uncounted : List ℕ
 
 -- whether a message is looked at
 abbrev pub in_window : {S : Type 0} → Frame S → Bool

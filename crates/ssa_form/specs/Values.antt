@@ -1,5 +1,6 @@
 -- Values on their way into operations and calls.
 use Rattle.std.specs.Prelude.{ℕ, suc, List, [], ◌∷◌, slice_get, Bool, true, false, not, ◌&&◌, ◌||◌, eqb, Option, Some, None, if◌then◌else◌}
+use Rattle.erl_base.specs.Lists.{among}
 use Rattle.erl_term.specs.Term as T
 use Rattle.erl_term.specs.Term.{Term}
 use Rattle.erl_term.specs.Terms.{Values}
@@ -92,6 +93,12 @@ puts_of exact (k ∷ v ∷ vs) = with_put (record { key = k; value = v; exact = 
 abbrev pub with_part : Option (List Bool) → Option (Option (List Bool)) → Option (Option (List Bool))
 with_part p None = None
 with_part p (Some ps) = Some (joined p ps)
+
+-- the sub-binaries that a part of a bit string makes: none where its variable is one of these, whose parts are handed
+-- on
+abbrev pub part_cuts : List ℕ → Option ℕ → ℕ
+part_cuts hs None = 1
+part_cuts hs (Some v) = if among v hs then 0 else 1
 
 -- the bits of segments; inside an answer, None is badarg
 abbrev pub parts_of : List Shape → Values → Option (Option (List Bool))

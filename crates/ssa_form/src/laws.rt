@@ -1,7 +1,7 @@
 // What holds of the runs of all bodies.
 ghost use Rattle.ssa_form.specs.RunLaws.{MoreBlocksChangeNothing, GivesOneResult, RunsEnd, RunsLower, UnsetIsNeverSeen};
 ghost use Rattle.ssa_form.specs.Liveness.{LiveBeforeSet};
-ghost use Rattle.ssa_form.specs.PassView.{FormsHaveOneResult};
+ghost use Rattle.ssa_form.specs.PassView.{BodiesAreProper};
 ghost use Rattle.ssa_form.specs.Ssa as Plain;
 
 /// A run that is over stays so, however many blocks more it is allowed; likewise one that broke a rule.
@@ -26,10 +26,11 @@ pub fn runs_give_no_entries_back()
     ensures { RunsLower }
 {}
 
-/// A body of each form has at most one result, as the contract of passes sees it.
-#[tactic(auto, using(crate::proofs::OneResult::one_result_each))]
-pub fn forms_have_one_result()
-    ensures { FormsHaveOneResult }
+/// A body of each form has at most one result, as the contract of passes sees it, and that is lawful where what it
+/// enters is.
+#[tactic(auto, using(crate::proofs::OneResult::proper_each))]
+pub fn bodies_are_proper()
+    ensures { BodiesAreProper }
 {}
 
 /// A variable is live before a set that reads it, or that leaves it and behind which it is live, where only the next

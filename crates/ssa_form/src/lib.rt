@@ -34,9 +34,8 @@ pub use body::{
     VarFacts,
 };
 pub use laws::{
-    body_has_one_result, forms_have_one_result, liveness_goes_over_a_set,
-    more_blocks_change_nothing, runs_end_under_the_cycle_rule, runs_give_no_entries_back,
-    unset_variables_are_never_seen,
+    bodies_are_proper, body_has_one_result, liveness_goes_over_a_set, more_blocks_change_nothing,
+    runs_end_under_the_cycle_rule, runs_give_no_entries_back, unset_variables_are_never_seen,
 };
 pub use op::{Check, Field, Fields, Op, Set};
 pub use placed::{

@@ -1,0 +1,3 @@
+mod SmallPath
+mod WholePath
+mod Refused

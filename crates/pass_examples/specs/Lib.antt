@@ -1,0 +1,3 @@
+pub mod SmallPath
+pub mod WholePath
+pub mod Refused

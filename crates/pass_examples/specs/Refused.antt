@@ -1,0 +1,71 @@
+-- What the contract of passes refuses: each beside the small function that it would be made of.
+use Rattle.std.specs.Prelude.{◌≡◌, ℕ, List, [], ◌∷◌, false, Some, None, IsTrue}
+use Rattle.erl_base.specs.declared.ids.FunKey.{FunKey}
+use Rattle.erl_term.specs.Term as T
+use Rattle.world_model.specs.Run.{gives, cut, noting}
+use Rattle.kernel_meaning.specs.Forms as Kernel
+use Rattle.pass_contract.specs.SameRun.{Compared}
+use Rattle.pass_contract.specs.InModule.{InModule}
+use Rattle.pass_contract.specs.PassContract.{Run, at_once, Agrees, Keeps}
+use Rattle.ssa_form.specs.Ssa as S
+use Rattle.ssa_form.specs.Ssa.{Set, Last, Body, block, set, br, succeeded, ret}
+use Rattle.ssa_form.specs.PassView.{around_in, ssa_does, ssa_form}
+use Rattle.pass_examples.specs.SmallPath.{gives_term, gives_param, kernel_fun, ssa_body}
+
+-- a body of one block
+abbrev pub one_block : ℕ → List ℕ → List Set → Last → Body
+one_block n ps xs l = record { site = n; params = ps; blocks = Some (block [] xs l) ∷ []; contexts = [] }
+
+-- it goes to its block for ever
+abbrev pub endless : ℕ → Body
+endless n = one_block n (0 ∷ []) [] (br (S.var 0) 0 0)
+
+-- it has a parameter more
+abbrev pub two_params : ℕ → Body
+two_params n = one_block n (0 ∷ 1 ∷ []) [] (ret (S.var 0))
+
+-- it looks at messages, as a receive
+abbrev pub looks_at : ℕ → Body
+looks_at n = one_block n (0 ∷ []) (set (Some 1) (S.peek 5) [] ∷ []) (succeeded 1 0 0)
+
+-- a run that makes so many sub-binaries
+abbrev pub cutting : ℕ → Run
+cutting n = at_once (λ here vs s. (noting (cut n) s, gives T.nil))
+
+-- a body that looks from where its marker stands, at the first message alone
+abbrev pub goes_by_marker : Body
+goes_by_marker = record {
+  site = 0;
+  params = 0 ∷ [];
+  blocks =
+      Some (block [] (set None S.use_marker (S.var 0 ∷ []) ∷ set (Some 1) (S.peek 0) [] ∷ []) (succeeded 1 1 2))
+      ∷ Some (block [] (set None S.take_message [] ∷ []) (ret (S.lit T.nil)))
+      ∷ Some (block [] [] (ret (S.lit T.nil))) ∷ [];
+  contexts = [];
+}
+
+-- a module that sets nothing beside the number of its parameters
+abbrev pub bare : InModule
+bare = record { widths = 1 ∷ []; marks = []; plan = []; choices = []; uncounted = [] }
+
+-- a body that would be made of the function that gives its parameter
+abbrev pub Made : Compared → InModule → FunKey → ℕ → Body → Type 0
+Made w m k n b = Keeps w m (Kernel.form_of (kernel_fun k n gives_param)) (ssa_form 2 b)
+
+-- whatever is compared, and however the module is set
+pub record Refused (w : Compared) (m : InModule) (k : FunKey) (n : ℕ) : Type 0 where
+  pub value : Made w m k n (ssa_body n (gives_term T.nil)) → ⊥
+  pub end : Made w m k n (endless n) → ⊥
+  pub arity : Made w m k n (two_params n) → ⊥
+  pub receive : Made w m k n (looks_at n) → ⊥
+  -- one sub-binary more, where they are compared; one less is no fault
+  pub more : IsTrue w.cuts → Agrees w (cutting 0) (cutting 1) → ⊥
+  pub not_compared : w.cuts ≡ false → Agrees w (cutting 0) (cutting 1)
+  pub fewer : Agrees w (cutting 1) (cutting 0)
+  -- where marks are not compared, a body that goes by a marker does not agree even with itself
+  pub marks : w.marks ≡ false
+      → Agrees w (ssa_does goes_by_marker (around_in bare)) (ssa_does goes_by_marker (around_in bare)) → ⊥
+
+-- all of them
+abbrev pub WrongPassesRefused : Type 0
+WrongPassesRefused = (w : Compared) (m : InModule) (k : FunKey) (n : ℕ) → Refused w m k n

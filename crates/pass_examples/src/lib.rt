@@ -1,0 +1,27 @@
+//! Small functions along the passes, each step shown to keep its contract; a module of some of them, shown to behave
+//! the same by these alone; and wrong bodies, each refused.
+//!
+//! A function that gives its parameter keeps it in a slot of a frame, so that the frame has to go behind the last read;
+//! one that calls another module's function in tail position gets a variable for the call's value, which its source
+//! does not name. The public functions have no code: the contract of each is a law.
+#![tactic(auto)]
+
+ghost use Rattle.pass_examples.specs.SmallPath.{SmallPathsKeep};
+ghost use Rattle.pass_examples.specs.WholePath.{WholePath};
+ghost use Rattle.pass_examples.specs.Refused.{WrongPassesRefused};
+
+/// Functions of one parameter, from kernel form to a body with frames: each step keeps what passes keep.
+pub fn small_paths_keep()
+    ensures { SmallPathsKeep }
+{}
+
+/// A small module from Core Erlang to its assembly, shown function by function along the forms between them.
+pub fn whole_path_behaves()
+    ensures { WholePath }
+{}
+
+/// Another value, no end, another parameter, a receive of its own and one sub-binary more are refused; what is not
+/// compared is not.
+pub fn wrong_passes_refused()
+    ensures { WrongPassesRefused }
+{}
