@@ -82,7 +82,7 @@ mutual
   every (apply p e es) n h = leaf_every p n (Some 1) h
   every (catch p e) n h = leaf_every p n (Some 1) h
 
-  every_clause : (cs : Clauses) (wanted : Option ℕ) → clauses_degree cs ≡ None → clauses_need wanted cs ≡ []
+  pub every_clause : (cs : Clauses) (wanted : Option ℕ) → clauses_degree cs ≡ None → clauses_need wanted cs ≡ []
   every_clause no_clause n h = refl
   every_clause (and_clause (clause p qs g e) cs) n h =
       ap₂ (λ xs ys. xs ++ ys) (every e n (first_none (degree e) (clauses_degree cs) h))

@@ -1,2 +1,11 @@
 mod Degree
+mod Spelling
+mod Counted
+mod Weights
+mod Likeness
+mod Growth
+mod Wants
+mod Orders
+mod Heads
+mod Judging
 mod Examples

@@ -1,2 +1,4 @@
 pub mod Degrees
 pub mod ScopeFaults
+pub mod ScopeWalk
+pub mod Readings

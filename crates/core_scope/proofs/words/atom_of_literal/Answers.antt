@@ -1,0 +1,7 @@
+use Rattle.std.proofs.Common.{rules, ◌∙◌}
+use Rattle.core_form.specs.declared.tree.ExprForm.{the_lemmas}
+use Rattle.core_scope.proofs.Spelling.{nothing_spelled}
+use Rattle.core_scope.proofs.words.atom_of_literal.Goals as goal
+
+pub returns : goal.returns
+returns c = nothing_spelled ∙ search (rules, the_lemmas)
