@@ -1,5 +1,5 @@
 -- What variables, definitions, exports and patterns meet.
-use Rattle.std.proofs.Common.{◌≡◌, ℕ, suc, ◌≤◌, List, [], ◌∷◌, ◌++◌, length, Bool, true, false, not, ◌||◌, eqb, Option, Some, None, is_some, if◌then◌else◌, refl, sym, ap, ap₂, ◌∙◌, subst, arith, le_refl}
+use Rattle.std.proofs.Common.{◌≡◌, ℕ, ◌≤◌, List, [], ◌∷◌, ◌++◌, length, Bool, true, false, not, ◌||◌, eqb, Option, Some, is_some, if◌then◌else◌, refl, sym, ap, ◌∙◌, subst, arith, le_refl}
 use Rattle.erl_base.specs.Names.{Name, same_key, is_key}
 use Rattle.erl_base.specs.declared.ids.Place.{Place}
 use Rattle.erl_base.specs.declared.ids.FunKey.{FunKey}
@@ -7,7 +7,7 @@ use Rattle.erl_base.specs.declared.refusal.Refusal.{Refusal}
 use Rattle.erl_base.specs.declared.refusal.ScopeFault.TheVariants.{UnboundVariable, UnboundFunction, DoubledVariable, DoubledFunction, MissingExport, WrongArity}
 use Rattle.core_form.specs.declared.tree.Binder.{Binder}
 use Rattle.core_form.specs.declared.module.FunName.{FunName}
-use Rattle.core_form.specs.Core.{Expr, values, var, fun_name, literal, list, tuple, new_map, map_of, binary, fun, let_in, letrec, case, apply, call, primop, do_then, catch, try, receive, Defs, no_def, and_def, def, Pattern, any, alias, known, list_like, tuple_like, map_like, bits_like, Patterns, no_pattern, and_pattern, KeyPatterns, no_key, and_key, key_pattern, SegPatterns, no_seg, and_seg, seg_pattern}
+use Rattle.core_form.specs.Core.{Expr, var, Defs, no_def, and_def, def, Pattern, any, alias, known, list_like, tuple_like, map_like, bits_like, Patterns, no_pattern, and_pattern, KeyPatterns, no_key, and_key, key_pattern, SegPatterns, no_seg, and_seg, seg_pattern}
 use Rattle.core_form.specs.Scope.{Scope, variable, function, binding, function_of, with_names, names_of, params_of, bound, bound_all, bound_keys, bound_segs}
 use Rattle.core_names.specs.Table as Table
 use Rattle.first_fault.specs.FirstFault.{first_with}
@@ -27,7 +27,8 @@ doubled_from [] n g seen o l h = refl
 doubled_from (x ∷ xs) n g seen o l h =
     doubled_from xs n (variable x.name (length g) ∷ g) (x.name ∷ seen) (variable_met n g x.name x.place o)
     (omega (arith, l)) (bound_more n g x.name seen l h)
-    ∙ ap (λ b. first_with (first_with o (scope_fault b x.place DoubledVariable)) (doubled (x.name ∷ seen) xs)) (h x.name)
+    ∙ ap (λ b. first_with (first_with o (scope_fault b x.place DoubledVariable)) (doubled (x.name ∷ seen) xs))
+    (h x.name)
     ∙ sym (first_with_both o (scope_fault (is_name_among x.name seen) x.place DoubledVariable)
     (doubled (x.name ∷ seen) xs))
 
@@ -216,7 +217,8 @@ alike_behind : {k g : Scope} (q : Pattern) → Alike k g → Alike (pattern_scop
 alike_behind {k} {g} q h =
     subst (λ z. Alike z (with_names g (bound q))) (sym (scope_bound q k)) (alike_names (bound q) h)
 
-pub alike_patterns : {k g : Scope} (qs : Patterns) → Alike k g → Alike (patterns_scope qs k) (with_names g (bound_all qs))
+pub alike_patterns : {k g : Scope} (qs : Patterns) → Alike k g
+    → Alike (patterns_scope qs k) (with_names g (bound_all qs))
 alike_patterns {k} {g} qs h =
     subst (λ z. Alike z (with_names g (bound_all qs))) (sym (scopes_bound qs k)) (alike_names (bound_all qs) h)
 

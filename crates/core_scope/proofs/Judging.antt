@@ -1,5 +1,5 @@
 -- The way of the code meets the faults of the definitions.
-use Rattle.std.proofs.Common.{◌≡◌, ℕ, List, [], ◌∷◌, ◌++◌, length, Bool, true, false, not, ◌&&◌, Option, Some, None, refl, sym, ap, ◌∙◌, subst}
+use Rattle.std.proofs.Common.{◌≡◌, ℕ, List, [], ◌++◌, length, Bool, true, false, not, ◌&&◌, Option, Some, None, refl, sym, ap, ◌∙◌, subst}
 use Rattle.erl_base.specs.declared.ids.Place.{Place}
 use Rattle.erl_base.specs.declared.ids.FunKey.{FunKey}
 use Rattle.erl_base.specs.declared.refusal.Refusal.{Refusal}
@@ -202,7 +202,9 @@ mutual
       leaf_arm (literal p t) p (Some 1) s s.first [] (λ n. refl) (told s.first [])
   in_expr (list p es e) k g b s h =
       leaf_arm (list p es e) p (Some 1) s _ _ (λ n. refl)
-      (turned (onward (in_elements es k g b s.first h) (one_element e (judge_elements es k b s.first) (judge e k b (as_element e (judge_elements es k b s.first))) (degree e) (faults_in e g b)
+      (turned (onward (in_elements es k g b s.first h)
+      (one_element e (judge_elements es k b s.first) (judge e k b (as_element e (judge_elements es k b s.first)))
+      (degree e) (faults_in e g b)
       (in_expr e k g b (as_element e (judge_elements es k b s.first)) h)))
       (grouped (faults_of_elements es g b) (element_needs e) (faults_in e g b)))
   in_expr (tuple p es) k g b s h =
@@ -211,7 +213,9 @@ mutual
       leaf_arm (new_map p ps) p (Some 1) s _ _ (λ n. refl) (in_parts ps k g b s.first h)
   in_expr (map_of p ps e) k g b s h =
       leaf_arm (map_of p ps e) p (Some 1) s _ _ (λ n. refl)
-      (turned (onward (in_parts ps k g b s.first h) (one_element e (judge_parts ps k b s.first) (judge e k b (as_element e (judge_parts ps k b s.first))) (degree e) (faults_in e g b)
+      (turned (onward (in_parts ps k g b s.first h)
+      (one_element e (judge_parts ps k b s.first) (judge e k b (as_element e (judge_parts ps k b s.first)))
+      (degree e) (faults_in e g b)
       (in_expr e k g b (as_element e (judge_parts ps k b s.first)) h)))
       (grouped (faults_of_parts ps g b) (element_needs e) (faults_in e g b)))
   in_expr (binary p ss) k g b s h =
@@ -310,7 +314,8 @@ mutual
       let t = judge x k b (as_element x o) in
       let u = judge v k b (as_element v t.first) in
       turned (onward (onward (one_element x o (judge x k b (as_element x o)) (degree x) (faults_in x g b)
-      (in_expr x k g b (as_element x o) h)) (one_element v t.first (judge v k b (as_element v t.first)) (degree v) (faults_in v g b)
+      (in_expr x k g b (as_element x o) h))
+      (one_element v t.first (judge v k b (as_element v t.first)) (degree v) (faults_in v g b)
       (in_expr v k g b (as_element v t.first) h))) (in_parts ps k g b u.first h))
       (pair_order (element_needs x) (faults_in x g b) (element_needs v) (faults_in v g b) (faults_of_parts ps g b))
 
@@ -321,7 +326,8 @@ mutual
       let t = judge v k b (as_element v o) in
       let r = judge z k b (as_element z t.first) in
       turned (onward (onward (one_element v o (judge v k b (as_element v o)) (degree v) (faults_in v g b)
-      (in_expr v k g b (as_element v o) h)) (one_element z t.first (judge z k b (as_element z t.first)) (degree z) (faults_in z g b)
+      (in_expr v k g b (as_element v o) h))
+      (one_element z t.first (judge z k b (as_element z t.first)) (degree z) (faults_in z g b)
       (in_expr z k g b (as_element z t.first) h))) (in_segments ss k g b r.first h))
       (pair_order (element_needs v) (faults_in v g b) (element_needs z) (faults_in z g b) (faults_of_segments ss g b))
 
@@ -369,7 +375,8 @@ module_meets m =
     let o = defs_met m.defs 0 [] None in
     turned (onward (onward (defined_meets m.defs None nothing_alike)
     (ends (told o (export_faults (defined m.defs) m.exports)) (exports_are_met m.exports m.defs o)))
-    (in_defs m.defs k (module_scope m.defs 0 []) false (exports_met m.exports k o) (alike_module m.defs 0 nothing_alike)))
+    (in_defs m.defs k (module_scope m.defs 0 []) false (exports_met m.exports k o)
+    (alike_module m.defs 0 nothing_alike)))
     (module_order (defined_faults [] m.defs) (export_faults (defined m.defs) m.exports)
     (faults_of_defs m.defs (module_scope m.defs 0 []) false))
 

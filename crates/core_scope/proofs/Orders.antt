@@ -1,5 +1,5 @@
 -- Orders in which the faults of a form are met and told.
-use Rattle.std.proofs.Common.{◌≡◌, ℕ, List, ◌++◌, ap, arith}
+use Rattle.std.proofs.Common.{◌≡◌, List, ◌++◌, ap, arith}
 use Rattle.erl_base.specs.declared.refusal.Refusal.{Refusal}
 use Rattle.core_scope.proofs.Weights.{Even, weight, weight_both}
 

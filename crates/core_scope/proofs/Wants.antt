@@ -1,9 +1,9 @@
 -- How many values are wanted on the way, and what the definitions want.
-use Rattle.std.proofs.Common.{◌≡◌, ℕ, List, [], ◌++◌, Option, Some, None, refl, sym, ap, ap₂, ◌∙◌}
+use Rattle.std.proofs.Common.{◌≡◌, ℕ, List, [], ◌++◌, Option, Some, None, refl, sym, ap, ◌∙◌}
 use Rattle.erl_base.specs.declared.ids.Place.{Place}
 use Rattle.erl_base.specs.declared.refusal.Refusal.{Refusal}
 use Rattle.core_form.specs.declared.tree.Binder.{Binder}
-use Rattle.core_form.specs.Core.{Expr, values, case, try, receive, Exprs, Clauses, Patterns, and_clause, clause}
+use Rattle.core_form.specs.Core.{Expr, values, case, try, receive, Clauses, Patterns, and_clause, clause}
 use Rattle.core_scope.specs.declared.judged.Wanted.{Wanted}
 use Rattle.core_scope.specs.declared.judged.Wanted.TheVariants.{Nothing, Alike, Exactly}
 use Rattle.core_scope.specs.Degrees.{first_fixed, degree, clauses_degree, leaf_needs, needs, clauses_need, element_needs}

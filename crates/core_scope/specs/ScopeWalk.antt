@@ -4,7 +4,6 @@ use Rattle.std.specs.Prelude.{ℕ, List, [], ◌∷◌, length, Bool, true, fals
 use Rattle.std.specs.Option.{is_some}
 use Rattle.erl_base.specs.Names.{Name}
 use Rattle.erl_base.specs.declared.ids.Place.{Place}
-use Rattle.erl_base.specs.declared.ids.FunKey.{FunKey}
 use Rattle.erl_base.specs.declared.refusal.Refusal.{Refusal}
 use Rattle.erl_base.specs.declared.refusal.ScopeFault.TheVariants.{DoubledVariable, DoubledFunction, MissingExport, WrongArity, WrongDegree, ClauseWidth, GuardForm}
 use Rattle.bif_table.specs.Builtins.{never_returns}
@@ -233,8 +232,8 @@ abbrev mutual
   judge (call p m f es) g b s =
       leaf p (one_unless (never_returns (literal_name m) (literal_name f) (expr_count es)))
       (with_first (judge_elements es g b (judge f g b (wanting (Exactly 1)
-      (judge m g b (wanting (Exactly 1) (unguarded (b && not (is_guard_form (call p m f es))) p s.first))).first)).first)
-      s)
+      (judge m g b (wanting (Exactly 1)
+      (unguarded (b && not (is_guard_form (call p m f es))) p s.first))).first)).first) s)
   judge (primop p n es) g b s =
       leaf p (one_unless (is_raising_primop n)) (with_first (judge_elements es g b (unguarded b p s.first)) s)
   judge (do_then p a c) g b s =

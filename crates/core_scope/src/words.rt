@@ -94,7 +94,8 @@ fn listed(alloc: Global, name: &str, count: usize) -> Result<Option<Bif>, NoMemo
 /// A call of a function of the module erlang.
 fn erlang_callee(alloc: Global, name: &str, count: usize) -> Result<Called, NoMemory>
     requires { count ≤ 4294967295 }
-    ensures returns { IfOk result (λ called. called.never_returns ≡ never_returns (codes "erlang") (chars name.now) count) }
+    ensures returns { IfOk result (λ called. called.never_returns
+        ≡ never_returns (codes "erlang") (chars name.now) count) }
     ensures guards { IfOk result (λ called. called.in_guards ≡ is_guard_function (chars name.now) count) }
 {
     match listed(alloc, name, count)? {
@@ -117,7 +118,8 @@ fn callee_of(alloc: Global, home: &Expr, function: &Expr, count: usize) -> Resul
     requires { count ≤ 4294967295 }
     ensures returns { IfOk result (λ called. called.never_returns
         ≡ never_returns (literal_name (view home.now)) (literal_name (view function.now)) count) }
-    ensures guards { IfOk result (λ called. called.in_guards ≡ (same_name (literal_name (view home.now)) (codes "erlang")
+    ensures guards { IfOk result (λ called. called.in_guards
+        ≡ (same_name (literal_name (view home.now)) (codes "erlang")
         && is_guard_function (literal_name (view function.now)) count)) }
 {
     if !is_word(atom_of_literal(home), "erlang") {
@@ -139,7 +141,8 @@ pub fn callee(
     ensures returns { IfOk result (λ called. called.never_returns
         ≡ never_returns (literal_name (view home.now)) (literal_name (view function.now))
         (expr_count (exprs (map view arguments.now)))) }
-    ensures guards { IfOk result (λ called. called.in_guards ≡ (same_name (literal_name (view home.now)) (codes "erlang")
+    ensures guards { IfOk result (λ called. called.in_guards
+        ≡ (same_name (literal_name (view home.now)) (codes "erlang")
         && is_guard_function (literal_name (view function.now)) (expr_count (exprs (map view arguments.now))))) }
 {
     callee_of(alloc, home.get(), function.get(), arguments.len())

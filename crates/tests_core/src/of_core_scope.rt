@@ -27,7 +27,10 @@ fn defs(alloc: Global, answer: &str) -> Result<Defs, NoMemory> {
     };
     let answer = exprs::var(alloc, THERE, Name::from_text(alloc, answer));
     let right = exprs::fun(alloc, HERE, vars(alloc), answer);
-    lists::and_def(Ok(List::new(alloc)), nodes::def(alloc, Ok(key), HERE, right))
+    lists::and_def(
+        Ok(List::new(alloc)),
+        nodes::def(alloc, Ok(key), HERE, right),
+    )
 }
 
 fn module(alloc: Global, answer: &str) -> Result<Module, NoMemory> {
@@ -56,6 +59,9 @@ fn an_unbound_variable_is_told(rt: HostRuntime) -> Result<(), Fail> {
         kind: Kind::Scope(ScopeFault::UnboundVariable),
         place: THERE,
     };
-    assert_eq!(rt; check_scope(alloc, &module(alloc, "Y")?), Err(Fault::Refused(fault)));
+    assert_eq!(rt;
+        check_scope(alloc, &module(alloc, "Y")?),
+        Err(Fault::Refused(fault))
+    );
     Ok(())
 }

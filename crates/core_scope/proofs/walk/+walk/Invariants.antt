@@ -33,7 +33,8 @@ invariant-in_defs-loop-item l = record {
 
 abbrev pub invariant-in_clauses-loop-item : goal.invariant-in_clauses-loop-item
 invariant-in_clauses-loop-item l = record {
-  judged : judge_clauses (clauses (map clause_view (drop l.item-index l.items))) l.degree l.initial.names l.guard l.judged
+  judged :
+      judge_clauses (clauses (map clause_view (drop l.item-index l.items))) l.degree l.initial.names l.guard l.judged
       ≡ judge_clauses (clauses (map clause_view l.items)) l.degree l.initial.names l.guard l.initial.judged;
   names : l.names ≡ l.initial.names;
 }

@@ -1,4 +1,4 @@
-use Rattle.std.proofs.Common.{◌≡◌, ◌&&◌, map, codes, sym, ap, ◌∙◌}
+use Rattle.std.proofs.Common.{◌≡◌, ◌&&◌, map, codes, sym, ◌∙◌}
 use Rattle.std.proofs.lemmas.Result.{IfOk-weaker}
 use Rattle.erl_base.specs.Names.{same_name}
 use Rattle.bif_table.specs.Builtins.{never_returns}
@@ -28,7 +28,8 @@ returns-clause-guards c =
     (λ (x : Called). x.in_guards ≡ (same_name (literal_name (view c.get.result.now)) (codes "erlang")
     && is_guard_function (literal_name (view c.get-2.result.now)) c.len.result))
     (λ (x : Called). x.in_guards ≡ (same_name (literal_name (view c.args.home.now)) (codes "erlang")
-    && is_guard_function (literal_name (view c.args.function.now)) (expr_count (exprs (map view c.args.arguments.now)))))
+    && is_guard_function (literal_name (view c.args.function.now))
+    (expr_count (exprs (map view c.args.arguments.now)))))
     (λ x e. e ∙ (λ i. same_name (literal_name (view (c.get.ensures i))) (codes "erlang")
     && is_guard_function (literal_name (view (c.get-2.ensures i))) (n i)))
     c.callee_of.ensures.guards
