@@ -28,14 +28,14 @@ binding_unexpanded (variable y n ∷ g) x = ap (λ o. if same_name x y then Some
 binding_unexpanded (function f s us ∷ g) x = binding_unexpanded g x
 
 -- behind every binding there is no function
-at_outer : (g : Scope) (n : ℕ) → length g ≤ n → captures_at g n ≡ None
+pub at_outer : (g : Scope) (n : ℕ) → length g ≤ n → captures_at g n ≡ None
 at_outer [] n h = refl
 at_outer (variable x m ∷ g) n h = at_outer g n (omega (arith, h))
 at_outer (function f s us ∷ g) n h =
     ap (λ b. if b then Some us else captures_at g n) (ne_eqb n (length g) (λ e. omega (arith, e, h)))
     ∙ at_outer g n (omega (arith, h))
 
-at_more : (g : Scope) (f : FunKey) (s : ℕ) (us : List Use) (n : ℕ) → n < length g
+pub at_more : (g : Scope) (f : FunKey) (s : ℕ) (us : List Use) (n : ℕ) → n < length g
     → captures_at (function f s us ∷ g) n ≡ captures_at g n
 at_more g f s us n h =
     ap (λ b. if b then Some us else captures_at g n) (ne_eqb n (length g) (λ e. omega (arith, e, h)))

@@ -27,10 +27,10 @@ module _ (b : ℕ) (r : ℕ → Option (List Use)) where
     pub reads : Reads g h
     pub least : b ≤ length g
 
-  none : Stands [] []
+  pub none : Stands [] []
   none = record { alike = itself [] }
 
-  two : {us vs ws xs : List Use} → Stands us vs → Stands ws xs → Stands (us ++ ws) (vs ++ xs)
+  pub two : {us vs ws xs : List Use} → Stands us vs → Stands ws xs → Stands (us ++ ws) (vs ++ xs)
   two {us} {vs} {ws} {xs} h k = record {
     alike = through (both h.alike k.alike) (equal _ _ (sym (expanded_append r vs xs)));
   }
