@@ -1,0 +1,2 @@
+mod SameKeys
+mod Rows
