@@ -7,12 +7,12 @@ use Rattle.core_form.specs.Core.{Expr, values, var, fun_name, literal, list, tup
 use Rattle.core_form.specs.Scope.{Use, Scope, variable, function, binding, function_of, with_names, names_of, bound, bound_all}
 use Rattle.core_form.specs.Captures.{found, captured, placed, occurring, occurring_all, occurring_parts, occurring_segments, occurring_defs, occurring_clauses, occurring_pattern, occurring_patterns, occurring_keys, occurring_segs}
 use Rattle.core_names.specs.declared.table.Known.{Known}
-use Rattle.core_names.specs.Table as Names
+use Rattle.core_names.specs.Table.{function_known}
 use Rattle.core_sites.specs.Things.{use_at, unexpanded}
 use Rattle.core_sites.specs.Gathering.{put_all, thing, named, gathered, gathered_all, gathered_parts, gathered_segments, gathered_defs, gathered_clauses, gathered_pattern, gathered_patterns, gathered_keys, gathered_segs}
 use Rattle.core_sites.proofs.Captured.{length_unexpanded, binding_unexpanded}
 use Rattle.core_sites.proofs.Puts.{put_all_append}
-use Rattle.core_sites.proofs.Groups.{Ready, ready_names, ready_named, ready_all, group_gathered}
+use Rattle.core_sites.proofs.Groups.{Ready, ready_names, ready_named, ready_all, letrec_gathered}
 
 -- from us to vs these are put
 pub record Puts (l : ℕ) (us vs xs : List Use) : Type 0 where
@@ -44,11 +44,11 @@ thing_if true s m p q k o h = refl
 thing_if false s m p q k o h = h
 
 thing_placed : (g : Scope) (p : Place) (f : FunKey)
-    → thing p (Names.known g f) ≡ placed p (captured (function_of (unexpanded g) f))
+    → thing p (function_known g f) ≡ placed p (captured (function_of (unexpanded g) f))
 thing_placed [] p f = refl
 thing_placed (variable y n ∷ g) p f = thing_placed g p f
 thing_placed (function q s us ∷ g) p f =
-    thing_if (same_key f q) s (length g) p (record { line = 0; column = 0 }) (Names.known g f)
+    thing_if (same_key f q) s (length g) p (record { line = 0; column = 0 }) (function_known g f)
     (function_of (unexpanded g) f) (thing_placed g p f)
 
 mutual
@@ -73,7 +73,7 @@ mutual
   gathers (letrec p ds b) {l} {g} us w =
       let inner = ready_all (ready_named ds w) in
       record {
-        is = group_gathered p ds b g us w (λ ts. (gathers_defs ds ts inner).is) (λ ts. (gathers b ts inner).is);
+        is = letrec_gathered p ds b g us w (λ ts. (gathers_defs ds ts inner).is) (λ ts. (gathers b ts inner).is);
       }
   gathers (case p e cs) us w = onward (gathers e us w) (gathers_clauses cs _ w)
   gathers (apply p e es) us w = onward (gathers e us w) (gathers_all es _ w)

@@ -189,13 +189,13 @@ group_once ds g w =
     ∙ once_of_below (length g) (length g) [] used (omega arith)
 
 -- the walk through a group puts what its form uses
-pub group_gathered : {l : ℕ} (p : Place) (ds : Defs) (b : Expr) (g : Scope) (us : List Use) → Ready l g
+pub letrec_gathered : {l : ℕ} (p : Place) (ds : Defs) (b : Expr) (g : Scope) (us : List Use) → Ready l g
     → (put : (us : List Use) → gathered_defs ds (named ds g) (length (named ds g)) us
     ≡ put_all (length (named ds g)) us (occurring_defs ds (unexpanded (named ds g))))
     → (behind : (us : List Use) → gathered b (named ds g) (length (named ds g)) us
     ≡ put_all (length (named ds g)) us (occurring b (unexpanded (named ds g))))
     → gathered (letrec p ds b) g l us ≡ put_all l us (occurring (letrec p ds b) (unexpanded g))
-group_gathered {l} p ds b g us w put behind =
+letrec_gathered {l} p ds b g us w put behind =
     let n = length g in
     let h = named ds g in
     let m = length (named ds g) in

@@ -5,3 +5,4 @@ pub mod Puts
 pub mod Groups
 pub mod Gathers
 pub mod Lists
+pub mod Outside

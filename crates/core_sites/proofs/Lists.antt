@@ -6,7 +6,8 @@ use Rattle.erl_base.specs.Names.{Name, same_name, same_key}
 use Rattle.erl_base.specs.declared.ids.Place.{Place}
 use Rattle.erl_base.specs.declared.ids.FunKey.{FunKey}
 use Rattle.core_form.specs.declared.tree.Binder.{Binder}
-use Rattle.core_form.specs.declared.module.Site.{Site}
+use Rattle.core_sites.specs.declared.listing.Told.{Told}
+use Rattle.core_sites.specs.declared.listing.Told.TheVariants.{Sites, Counts}
 use Rattle.core_form.specs.Core.{Module, Expr, values, var, fun_name, literal, list, tuple, new_map, map_of, binary, fun, let_in, letrec, case, apply, call, primop, do_then, catch, try, receive, Exprs, no_expr, and_expr, MapParts, no_part, and_part, map_part, Segments, no_segment, and_segment, segment, Defs, no_def, and_def, def, Clauses, no_clause, and_clause, clause}
 use Rattle.core_form.specs.Scope.{Use, Scope, variable, function, binding, function_of, with_names, names_of, params_of, body_of, bound_all}
 use Rattle.core_form.specs.Captures.{sites_in, sites_in_all, sites_in_parts, sites_in_defs, sites_in_clauses, with_defs, captured, once_below, placed, occurring, occurring_defs, captures_of, group_captures, in_group}
@@ -14,7 +15,7 @@ use Rattle.core_form.specs.Sites as Plain
 use Rattle.core_form.specs.Sites.{fun_site, named_site, sites, sites_all, sites_parts, sites_segments, sites_defs, sites_clauses, module_scope, def_count, own_sites, inner_sites, module_sites}
 use Rattle.core_sites.specs.Things.{use_at, unexpanded, instead, expanded, captures_at, below, IsNumbered}
 use Rattle.core_sites.specs.Gathering.{put_all, named, gathered, gathered_defs}
-use Rattle.core_sites.specs.Listing.{Held, one_of, held_at, padded, with_group, binders_of, shown, resolved, defs_capture, listing, own_listing, own_listings, listed, listed_all, listed_parts, listed_segments, listed_inside, listed_defs, listed_clauses, all_inside, listed_module}
+use Rattle.core_sites.specs.Listing.{Held, one_of, held_at, padded, with_group, binders_of, shown, resolved, defs_capture, group_held, listing, own_listing, own_listings, listed, listed_all, listed_parts, listed_segments, listed_inside, listed_defs, listed_clauses, all_inside, listed_module}
 use Rattle.core_sites.proofs.Alike.{equal, below_more, below_once, expanded_none, IsLow}
 use Rattle.core_sites.proofs.Stands.{Reads, Fits, stands, stands_defs}
 use Rattle.core_sites.proofs.Captured.{at_outer, at_more, binding_unexpanded, length_unexpanded, binding_within, captures_expanded, group_captures_expanded}
@@ -217,37 +218,51 @@ group_captured {n} {g} {st} ds w =
 
 -- Lists of functions.
 
+-- what is told with these sites behind the others
+abbrev told : Told → List Plain.Site → Told
+told (Sites out) xs = Sites (out ++ map shown xs)
+told (Counts out) xs = Counts (out ++ map (λ x. length x.captures) xs)
+
+told_none : (out : Told) → out ≡ told out []
+told_none (Sites out) = ap Sites (sym (append-nil out))
+told_none (Counts out) = ap Counts (sym (append-nil out))
+
+told_both : (out : Told) (xs ys : List Plain.Site) → told (told out xs) ys ≡ told out (xs ++ ys)
+told_both (Sites out) xs ys =
+    ap Sites (append_assoc out (map shown xs) (map shown ys) ∙ ap (λ ts. out ++ ts) (sym (map-append shown xs ys)))
+told_both (Counts out) xs ys =
+    let count : Plain.Site → ℕ = λ x. length x.captures in
+    ap Counts (append_assoc out (map (λ x. length x.captures) xs) (map (λ x. length x.captures) ys)
+    ∙ ap (λ ts. out ++ ts) (sym (map-append count xs ys)))
+
+told_one : (out : Told) (x : Plain.Site) → listing x.place x.key x.params x.captures out ≡ told out (x ∷ [])
+told_one (Sites out) x = refl
+told_one (Counts out) x = refl
+
 -- from out to r these sites are listed
-record Lists (out r : List Site) (xs : List Plain.Site) : Type 0 where
-  pub is : r ≡ out ++ map shown xs
+record Lists (out r : Told) (xs : List Plain.Site) : Type 0 where
+  pub is : r ≡ told out xs
 
-none : (out : List Site) → Lists out out []
-none out = record { is = sym (append-nil out) }
+none : (out : Told) → Lists out out []
+none out = record { is = told_none out }
 
-onward : {out r s : List Site} {xs ys : List Plain.Site} → Lists out r xs → Lists r s ys → Lists out s (xs ++ ys)
+onward : {out r s : Told} {xs ys : List Plain.Site} → Lists out r xs → Lists r s ys → Lists out s (xs ++ ys)
 onward {out} {r} {s} {xs} {ys} h k = record {
-  is = k.is ∙ ap (λ ts. ts ++ map shown ys) h.is ∙ append_assoc out (map shown xs) (map shown ys)
-      ∙ ap (λ ts. out ++ ts) (sym (map-append shown xs ys));
+  is = k.is ∙ ap (λ ts. told ts ys) h.is ∙ told_both out xs ys;
 }
 
-one : (out : List Site) (x : Plain.Site) (us : List Use) → us ≡ x.captures
+one : (out : Told) (x : Plain.Site) (us : List Use) → us ≡ x.captures
     → Lists out (listing x.place x.key x.params us out) (x ∷ [])
-one out x us e = record {
-  is = ap (λ vs. out ++ record { place = x.place; key = x.key; params = x.params; captures = binders_of vs } ∷ []) e;
-}
-
--- held by a group
-abbrev inside_group : Defs → Scope → Held → Held
-inside_group ds n st = with_group ds (defs_capture ds (named ds n) (length n) st) (padded (length n) st)
+one out x us e = record { is = ap (λ vs. listing x.place x.key x.params vs out) e ∙ told_one out x }
 
 tied_inside : {n g : Scope} {st : Held} (ds : Defs) (k : ℕ) → Tied n st g
-    → Tied (named ds n) (inside_group ds n st) (in_group ds k g)
+    → Tied (named ds n) (group_held ds n st) (in_group ds k g)
 tied_inside {n} {g} {st} ds k w =
     subst (λ us. Tied (named ds n) (with_group ds us (padded (length n) st)) (in_group ds k g))
     (sym (group_captured ds w)) (tied_group ds k (group_captures ds g) (below_once (length g) [] _) w)
 
 mutual
-  lists : (e : Expr) {n g : Scope} {st : Held} (k : ℕ) (out : List Site) → Tied n st g
+  lists : (e : Expr) {n g : Scope} {st : Held} (k : ℕ) (out : Told) → Tied n st g
       → Lists out (listed e n st out) (sites e g k)
   lists (values p es) k out w = lists_all es k out w
   lists (var p x) k out w = none out
@@ -281,26 +296,26 @@ mutual
       onward (onward (lists_clauses cs k out w) (lists t (k + sites_in_clauses cs) _ w))
       (lists b (k + sites_in_clauses cs + sites_in t) _ w)
 
-  lists_all : (es : Exprs) {n g : Scope} {st : Held} (k : ℕ) (out : List Site) → Tied n st g
+  lists_all : (es : Exprs) {n g : Scope} {st : Held} (k : ℕ) (out : Told) → Tied n st g
       → Lists out (listed_all es n st out) (sites_all es g k)
   lists_all no_expr k out w = none out
   lists_all (and_expr e es) k out w = onward (lists e k out w) (lists_all es (k + sites_in e) _ w)
 
-  lists_parts : (ps : MapParts) {n g : Scope} {st : Held} (k : ℕ) (out : List Site) → Tied n st g
+  lists_parts : (ps : MapParts) {n g : Scope} {st : Held} (k : ℕ) (out : Told) → Tied n st g
       → Lists out (listed_parts ps n st out) (sites_parts ps g k)
   lists_parts no_part k out w = none out
   lists_parts (and_part (map_part a v x) ps) k out w =
       onward (onward (lists a k out w) (lists v (k + sites_in a) _ w))
       (lists_parts ps (k + sites_in a + sites_in v) _ w)
 
-  lists_segments : (ss : Segments) {n g : Scope} {st : Held} (k : ℕ) (out : List Site) → Tied n st g
+  lists_segments : (ss : Segments) {n g : Scope} {st : Held} (k : ℕ) (out : Told) → Tied n st g
       → Lists out (listed_segments ss n st out) (sites_segments ss g k)
   lists_segments no_segment k out w = none out
   lists_segments (and_segment (segment p v s u t f) ss) k out w =
       onward (onward (lists v k out w) (lists s (k + sites_in v) _ w))
       (lists_segments ss (k + sites_in v + sites_in s) _ w)
 
-  lists_defs : (ds : Defs) {n g : Scope} {st : Held} {us vs : List Use} (k : ℕ) → us ≡ vs → (out : List Site)
+  lists_defs : (ds : Defs) {n g : Scope} {st : Held} {us vs : List Use} (k : ℕ) → us ≡ vs → (out : Told)
       → Tied n st g → Lists out (listed_defs ds n st us out) (sites_defs ds g vs k)
   lists_defs no_def k h out w = none out
   lists_defs (and_def (def p f (fun q xs e)) ds) {n} {g} {st} {us} {vs} k h out w =
@@ -310,7 +325,7 @@ mutual
       onward (onward (one out (named_site p f e g vs (suc k)) us h) (lists e (suc k) _ w))
       (lists_defs ds (k + suc (sites_in e)) h _ w)
 
-  lists_clauses : (cs : Clauses) {n g : Scope} {st : Held} (k : ℕ) (out : List Site) → Tied n st g
+  lists_clauses : (cs : Clauses) {n g : Scope} {st : Held} (k : ℕ) (out : Told) → Tied n st g
       → Lists out (listed_clauses cs n st out) (sites_clauses cs g k)
   lists_clauses no_clause k out w = none out
   lists_clauses (and_clause (clause p qs e b) cs) k out w =
@@ -318,12 +333,12 @@ mutual
       onward (onward (lists e k out inner) (lists b (k + sites_in e) _ inner))
       (lists_clauses cs (k + sites_in e + sites_in b) _ w)
 
-lists_own : (ds : Defs) (g : Scope) (k : ℕ) (out : List Site) → Lists out (own_listings ds out) (own_sites ds g k)
+lists_own : (ds : Defs) (g : Scope) (k : ℕ) (out : Told) → Lists out (own_listings ds out) (own_sites ds g k)
 lists_own no_def g k out = none out
 lists_own (and_def (def p f e) ds) g k out =
     onward (one out (named_site p f e g [] k) [] refl) (lists_own ds g (k + sites_in (body_of e)) _)
 
-lists_inside : (ds : Defs) {n g : Scope} {st : Held} (k : ℕ) (out : List Site) → Tied n st g
+lists_inside : (ds : Defs) {n g : Scope} {st : Held} (k : ℕ) (out : Told) → Tied n st g
     → Lists out (all_inside ds n st out) (inner_sites ds g k)
 lists_inside no_def k out w = none out
 lists_inside (and_def (def p f (fun q xs e)) ds) k out w =
@@ -344,9 +359,14 @@ nothing = record {
   level = refl;
 }
 
-pub module_listed : (m : Module) → listed_module m.defs ≡ map shown (module_sites m)
-module_listed m =
-    let g = module_scope m.defs 0 [] in
-    let n = def_count m.defs in
-    (onward (lists_own m.defs (module_scope m.defs 0 []) (def_count m.defs) [])
+module_told : (m : Module) (out : Told) → listed_module m.defs out ≡ told out (module_sites m)
+module_told m out =
+    (onward (lists_own m.defs (module_scope m.defs 0 []) (def_count m.defs) out)
     (lists_inside m.defs (def_count m.defs) _ (level_module m.defs 0 nothing).tied)).is
+
+pub sites_told : (m : Module) → listed_module m.defs (Sites []) ≡ Sites (map shown (module_sites m))
+sites_told m = module_told m (Sites [])
+
+pub counts_told : (m : Module)
+    → listed_module m.defs (Counts []) ≡ Counts (map (λ x. length x.captures) (module_sites m))
+counts_told m = module_told m (Counts [])

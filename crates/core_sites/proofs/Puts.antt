@@ -1,5 +1,6 @@
 -- Uses put behind others, each number once.
-use Rattle.std.proofs.Common.{◌≡◌, ℕ, List, [], ◌∷◌, ◌++◌, Bool, true, false, not, ◌&&◌, ◌||◌, eqb, ltb, if◌then◌else◌, refl, sym, ap, ◌∙◌, append_assoc, append-nil}
+use Rattle.std.proofs.Common.{◌≡◌, ℕ, ◌<◌, ◌≤◌, List, [], ◌∷◌, ◌++◌, Bool, true, false, not, ◌&&◌, ◌||◌, eqb, ltb, if◌then◌else◌, refl, sym, ap, ◌∙◌, append_assoc, append-nil, lt-ltb, le-ltb}
+use Rattle.std.specs.List.{list_any}
 use Rattle.erl_base.specs.Lists.{among}
 use Rattle.core_form.specs.Scope.{Use, numbers_of}
 use Rattle.core_form.specs.Captures.{once_below}
@@ -50,3 +51,31 @@ put_once l us (v ∷ vs) =
 pub put_alike : {vs ws : List Use} (l : ℕ) (us : List Use) → Alike vs ws → put_all l us vs ≡ put_all l us ws
 put_alike {vs} {ws} l us h =
     put_once l us vs ∙ ap (λ ts. us ++ ts) (h.first l (numbers_of us)) ∙ sym (put_once l us ws)
+
+-- What a set of the numbers tells.
+
+pub any_among : (n : ℕ) (ks : List ℕ) → list_any (eqb n) ks ≡ among n ks
+any_among n [] = refl
+any_among n (k ∷ ks) = ap (λ b. eqb n k || b) (any_among n ks)
+
+pub numbers_last : (us : List Use) (u : Use) → numbers_of (us ++ u ∷ []) ≡ numbers_of us ++ u.number ∷ []
+numbers_last [] u = refl
+numbers_last (v ∷ us) u = ap (λ ns. v.number ∷ ns) (numbers_last us u)
+
+pub put_high : (l : ℕ) (us : List Use) (u : Use) → l ≤ u.number → us ≡ put l us u
+put_high l us u h =
+    sym (ap (λ b. if b && not (among u.number (numbers_of us)) then us ++ u ∷ [] else us) (le-ltb u.number l h))
+
+skipped : (x y : Bool) (us vs : List Use) → y ≡ true → us ≡ (if x && not y then vs else us)
+skipped true true us vs h = refl
+skipped true false us vs h = absurd cc
+skipped false y us vs h = refl
+
+pub put_seen : (l : ℕ) (us : List Use) (u : Use) → among u.number (numbers_of us) ≡ true → us ≡ put l us u
+put_seen l us u h = skipped (ltb u.number l) (among u.number (numbers_of us)) us (us ++ u ∷ []) h
+
+pub put_new : (l : ℕ) (us : List Use) (u : Use) → u.number < l → among u.number (numbers_of us) ≡ false
+    → us ++ u ∷ [] ≡ put l us u
+put_new l us u h e =
+    sym (ap (λ b. if b && not (among u.number (numbers_of us)) then us ++ u ∷ [] else us) (lt-ltb u.number l h)
+    ∙ ap (λ b. if not b then us ++ u ∷ [] else us) e)

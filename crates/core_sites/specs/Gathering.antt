@@ -1,13 +1,13 @@
 -- One way through a text that gathers what it uses: what the code does, which only its own contracts cite. That these
 -- are the things of the text is proved.
-use Rattle.std.specs.Prelude.{ℕ, List, [], ◌∷◌, ◌++◌, length, ◌&&◌, not, ltb, Option, Some, None, if◌then◌else◌}
+use Rattle.std.specs.Prelude.{◌≡◌, ◌≤◌, ◌-◌, drop, ℕ, List, [], ◌∷◌, ◌++◌, length, ◌&&◌, not, ltb, Option, Some, None, if◌then◌else◌}
 use Rattle.erl_base.specs.Lists.{among}
 use Rattle.erl_base.specs.declared.ids.Place.{Place}
 use Rattle.core_form.specs.Core.{Expr, values, var, fun_name, literal, list, tuple, new_map, map_of, binary, fun, let_in, letrec, case, apply, call, primop, do_then, catch, try, receive, Exprs, no_expr, and_expr, MapParts, no_part, and_part, map_part, Segments, no_segment, and_segment, segment, Defs, no_def, and_def, def, Clauses, no_clause, and_clause, clause, Pattern, any, alias, known, list_like, tuple_like, map_like, bits_like, Patterns, no_pattern, and_pattern, KeyPatterns, no_key, and_key, key_pattern, SegPatterns, no_seg, and_seg, seg_pattern}
 use Rattle.core_form.specs.Scope.{Use, Scope, function, binding, with_names, names_of, numbers_of, bound, bound_all}
 use Rattle.core_form.specs.Captures.{found}
 use Rattle.core_names.specs.declared.table.Known.{Known}
-use Rattle.core_names.specs.Table as Names
+use Rattle.core_names.specs.Table.{function_known}
 use Rattle.core_sites.specs.Things.{use_at, expanded}
 
 -- a use behind the others, if its number is below l and none of theirs
@@ -42,7 +42,7 @@ abbrev mutual
   pub gathered : Expr → Scope → ℕ → List Use → List Use
   gathered (values p es) g l us = gathered_all es g l us
   gathered (var p x) g l us = put_all l us (found x p (binding g x))
-  gathered (fun_name p f) g l us = put_all l us (thing p (Names.known g f))
+  gathered (fun_name p f) g l us = put_all l us (thing p (function_known g f))
   gathered (literal p t) g l us = us
   gathered (list p es e) g l us = gathered e g l (gathered_all es g l us)
   gathered (tuple p es) g l us = gathered_all es g l us
@@ -111,3 +111,16 @@ abbrev mutual
   gathered_segs no_seg g l us = us
   gathered_segs (and_seg (seg_pattern p q e u k f) ss) g l us =
       gathered_segs ss (with_names g (bound q)) l (gathered e g l us)
+
+-- by the definitions of a group, whose names count too
+abbrev pub group_gathered : Defs → Scope → List Use
+group_gathered ds g = gathered_defs ds (named ds g) (length (named ds g)) []
+
+-- by the body of a group too, where n bindings stand outside; what the group uses of those stands for its functions
+abbrev pub rest_gathered : Expr → Scope → ℕ → List Use → List Use
+rest_gathered b h n vs = expanded (group_at n (put_all n [] vs)) (gathered b h (length h) vs)
+
+-- a scope and one inside of it, from which it is reached again
+pub record IsInside (outer inner : Scope) : Type 0 where
+  pub longer : length outer ≤ length inner
+  pub left : drop (length inner - length outer) inner ≡ outer

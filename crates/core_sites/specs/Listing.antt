@@ -5,7 +5,9 @@ use Rattle.erl_base.specs.declared.ids.Place.{Place}
 use Rattle.erl_base.specs.declared.ids.FunKey.{FunKey}
 use Rattle.core_form.specs.declared.tree.Binder.{Binder}
 use Rattle.core_form.specs.declared.module.Site.{Site}
-use Rattle.core_form.specs.Core.{Module, Expr, values, var, fun_name, literal, list, tuple, new_map, map_of, binary, fun, let_in, letrec, case, apply, call, primop, do_then, catch, try, receive, Exprs, no_expr, and_expr, MapParts, no_part, and_part, map_part, Segments, no_segment, and_segment, segment, Def, Defs, no_def, and_def, def, Clauses, no_clause, and_clause, clause}
+use Rattle.core_sites.specs.declared.listing.Told.{Told}
+use Rattle.core_sites.specs.declared.listing.Told.TheVariants.{Sites, Counts}
+use Rattle.core_form.specs.Core.{Expr, values, var, fun_name, literal, list, tuple, new_map, map_of, binary, fun, let_in, letrec, case, apply, call, primop, do_then, catch, try, receive, Exprs, no_expr, and_expr, MapParts, no_part, and_part, map_part, Segments, no_segment, and_segment, segment, Def, Defs, no_def, and_def, def, Clauses, no_clause, and_clause, clause}
 use Rattle.core_form.specs.Scope.{Use, Scope, with_names, names_of, params_of, bound_all}
 use Rattle.core_form.specs.Sites as Plain
 use Rattle.core_sites.specs.Things.{expanded}
@@ -53,22 +55,31 @@ fun_captures e g l st = resolved st l (gathered e g l [])
 abbrev pub defs_capture : Defs → Scope → ℕ → Held → List Use
 defs_capture ds g l st = resolved st l (gathered_defs ds g l [])
 
+-- a function as it is told
+abbrev pub told_site : Place → Option FunKey → List Binder → List Use → Site
+told_site p f xs us = record { place = p; key = f; params = xs; captures = binders_of us }
+
+-- what is held inside of a group
+abbrev pub group_held : Defs → Scope → Held → Held
+group_held ds g st = with_group ds (defs_capture ds (named ds g) (length g) st) (padded (length g) st)
+
 -- one function more
-abbrev pub listing : Place → Option FunKey → List Binder → List Use → List Site → List Site
-listing p f xs us out = out ++ record { place = p; key = f; params = xs; captures = binders_of us } ∷ []
+abbrev pub listing : Place → Option FunKey → List Binder → List Use → Told → Told
+listing p f xs us (Sites out) = Sites (out ++ told_site p f xs us ∷ [])
+listing p f xs us (Counts out) = Counts (out ++ length us ∷ [])
 
 -- a definition's function
-abbrev pub own_listing : Def → List Use → List Site → List Site
+abbrev pub own_listing : Def → List Use → Told → Told
 own_listing (def p f e) us out = listing p (Some f) (params_of e) us out
 
 -- the functions of a module's definitions, which capture nothing
-abbrev pub own_listings : Defs → List Site → List Site
+abbrev pub own_listings : Defs → Told → Told
 own_listings no_def out = out
 own_listings (and_def d ds) out = own_listings ds (own_listing d [] out)
 
 -- out: the functions before
 abbrev mutual
-  pub listed : Expr → Scope → Held → List Site → List Site
+  pub listed : Expr → Scope → Held → Told → Told
   listed (values p es) g st out = listed_all es g st out
   listed (var p x) g st out = out
   listed (fun_name p f) g st out = out
@@ -84,9 +95,8 @@ abbrev mutual
   listed (let_in p xs a b) g st out = listed b (with_names g (names_of xs)) st (listed a g st out)
   listed (letrec p ds b) g st out =
       let h = named ds g in
-      let us = defs_capture ds h (length g) st in
-      let su = with_group ds us (padded (length g) st) in
-      listed b h su (listed_defs ds h su us out)
+      let us = defs_capture ds (named ds g) (length g) st in
+      listed b h (group_held ds g st) (listed_defs ds h (group_held ds g st) us out)
   listed (case p e cs) g st out = listed_clauses cs g st (listed e g st out)
   listed (apply p e es) g st out = listed_all es g st (listed e g st out)
   listed (call p m f es) g st out = listed_all es g st (listed f g st (listed m g st out))
@@ -97,46 +107,46 @@ abbrev mutual
       listed c (with_names g (names_of ys)) st (listed b (with_names g (names_of xs)) st (listed a g st out))
   listed (receive p cs t b) g st out = listed b g st (listed t g st (listed_clauses cs g st out))
 
-  pub listed_all : Exprs → Scope → Held → List Site → List Site
+  pub listed_all : Exprs → Scope → Held → Told → Told
   listed_all no_expr g st out = out
   listed_all (and_expr e es) g st out = listed_all es g st (listed e g st out)
 
-  pub listed_parts : MapParts → Scope → Held → List Site → List Site
+  pub listed_parts : MapParts → Scope → Held → Told → Told
   listed_parts no_part g st out = out
   listed_parts (and_part (map_part k v x) ps) g st out = listed_parts ps g st (listed v g st (listed k g st out))
 
-  pub listed_segments : Segments → Scope → Held → List Site → List Site
+  pub listed_segments : Segments → Scope → Held → Told → Told
   listed_segments no_segment g st out = out
   listed_segments (and_segment (segment p v s u k f) ss) g st out =
       listed_segments ss g st (listed s g st (listed v g st out))
 
   -- the functions inside of one that is defined
-  pub listed_inside : Def → Scope → Held → List Site → List Site
+  pub listed_inside : Def → Scope → Held → Told → Told
   listed_inside (def p f (fun q xs e)) g st out = listed e (with_names g (names_of xs)) st out
   listed_inside (def p f e) g st out = listed e g st out
 
   -- all functions of a group capture the same
-  pub listed_defs : Defs → Scope → Held → List Use → List Site → List Site
+  pub listed_defs : Defs → Scope → Held → List Use → Told → Told
   listed_defs no_def g st us out = out
   listed_defs (and_def d ds) g st us out =
       listed_defs ds g st us (listed_inside d g st (own_listing d us out))
 
-  pub listed_clauses : Clauses → Scope → Held → List Site → List Site
+  pub listed_clauses : Clauses → Scope → Held → Told → Told
   listed_clauses no_clause g st out = out
   listed_clauses (and_clause (clause p qs e b) cs) g st out =
       let h = with_names g (bound_all qs) in
       listed_clauses cs g st (listed b h st (listed e h st out))
 
+-- the functions of a group, with those in them
+abbrev pub group_listed : Defs → Scope → Held → Told → Told
+group_listed ds g st out =
+    listed_defs ds (named ds g) (group_held ds g st) (defs_capture ds (named ds g) (length g) st) out
+
 -- the functions inside of those that are defined
-abbrev pub all_inside : Defs → Scope → Held → List Site → List Site
+abbrev pub all_inside : Defs → Scope → Held → Told → Told
 all_inside no_def g st out = out
 all_inside (and_def d ds) g st out = all_inside ds g st (listed_inside d g st out)
 
 -- all functions of a module
-abbrev pub listed_module : Defs → List Site
-listed_module ds = all_inside ds (named ds []) (with_group ds [] []) (own_listings ds [])
-
--- how much the functions of a list capture
-abbrev pub capture_counts : List Site → List ℕ
-capture_counts [] = []
-capture_counts (x ∷ xs) = length x.captures ∷ capture_counts xs
+abbrev pub listed_module : Defs → Told → Told
+listed_module ds out = all_inside ds (named ds []) (with_group ds [] []) (own_listings ds out)

@@ -31,6 +31,7 @@ pub(crate) fn bind_defs(items: &[Def], names: &mut Names) -> Result<(), NoMemory
 
 /// Binds the variables of a pattern.
 #[cycle(bind)]
+#[tactic(auto, using(crate::proofs::Outside::with_names_append))]
 pub(crate) fn bind_pattern(pattern: &Pattern, names: &mut Names) -> Result<(), NoMemory>
     ensures ok { OnOk result (names.new ≡ with_names names.old (bound (pattern_view pattern.now))) }
 {
@@ -59,6 +60,7 @@ fn bind_boxed(pattern: &Boxed<Pattern>, names: &mut Names) -> Result<(), NoMemor
 }
 
 #[cycle(bind)]
+#[tactic(auto, using(crate::proofs::Outside::with_names_append))]
 pub(crate) fn bind_patterns(items: &[Pattern], names: &mut Names) -> Result<(), NoMemory>
     ensures ok { OnOk result (names.new ≡ with_names names.old (bound_all (patterns (map pattern_view items.now)))) }
 {
@@ -76,6 +78,7 @@ fn bind_key(key: &KeyPattern, names: &mut Names) -> Result<(), NoMemory>
 }
 
 #[cycle(bind)]
+#[tactic(auto, using(crate::proofs::Outside::with_names_append))]
 fn bind_keys(items: &[KeyPattern], names: &mut Names) -> Result<(), NoMemory>
     ensures ok { OnOk result (names.new ≡ with_names names.old (bound_keys (keys (map key_view items.now)))) }
 {
@@ -93,6 +96,7 @@ fn bind_seg(segment: &SegPattern, names: &mut Names) -> Result<(), NoMemory>
 }
 
 #[cycle(bind)]
+#[tactic(auto, using(crate::proofs::Outside::with_names_append))]
 fn bind_segs(items: &[SegPattern], names: &mut Names) -> Result<(), NoMemory>
     ensures ok { OnOk result (names.new ≡ with_names names.old (bound_segs (segs (map seg_view items.now)))) }
 {

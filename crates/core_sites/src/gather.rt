@@ -1,13 +1,12 @@
 // The walk through a text that gathers what it uses of the scope around it.
-ghost use Rattle.std.specs.Prelude.{◌≡◌, ◌∷◌, [], map, length, OnOk, IfOk};
-ghost use Rattle.core_form.specs.Core.{letrec};
+ghost use Rattle.std.specs.Prelude.{◌≡◌, ◌≤◌, ◌-◌, ◌∷◌, [], map, length, drop, OnOk, IfOk};
 ghost use Rattle.core_form.specs.Scope.{binding, with_names, names_of, bound, bound_segs};
 ghost use Rattle.core_form.specs.Captures.{found, placed};
 ghost use Rattle.core_form.specs.View.{view, part_view, segment_view, def_view, clause_view, pattern_view, exprs, parts, segments, defs, clauses, patterns, keys, segs};
-ghost use Rattle.core_names.specs.Table.{known};
+ghost use Rattle.core_names.specs.Table.{function_known};
 ghost use Rattle.core_sites.specs.Readings.{key_view, seg_view};
-ghost use Rattle.core_sites.specs.Things.{expanded};
-ghost use Rattle.core_sites.specs.Gathering.{put_all, thing, group_at, gathered, gathered_all, gathered_parts, gathered_segments, gathered_defs, gathered_clauses, gathered_pattern, gathered_patterns, gathered_keys, gathered_segs};
+ghost use Rattle.core_sites.specs.Things.{instead, expanded};
+ghost use Rattle.core_sites.specs.Gathering.{put_all, thing, named, group_at, group_gathered, rest_gathered, IsInside, gathered, gathered_all, gathered_parts, gathered_segments, gathered_defs, gathered_clauses, gathered_pattern, gathered_patterns, gathered_keys, gathered_segs};
 
 use crate::bind::{bind_defs, bind_pattern, bind_patterns, bind_vars};
 use crate::used::{Used, Uses};
@@ -58,7 +57,9 @@ pub(crate) fn gather_expr(
             gather_under(vars.as_slice(), body, names, limit, uses, alloc)
         }
         ExprForm::Letrec(defs, body) => {
-            gather_letrec(defs.as_slice(), body, names, limit, uses, alloc)
+            let outside = names.len();
+            let inner = gather_group(defs.as_slice(), names, alloc)?;
+            gather_rest(body, inner, outside, names, limit, uses, alloc)
         }
         ExprForm::Case(subject, clauses) => {
             gather_boxed(subject, names, limit, uses, alloc)?;
@@ -121,7 +122,7 @@ fn use_function(
     limit: u64,
     uses: &mut Uses,
 ) -> Result<(), NoMemory>
-    ensures { OnOk result (uses.new ≡ put_all limit uses.old (thing place (known names.now key.now))) }
+    ensures { OnOk result (uses.new ≡ put_all limit uses.old (thing place (function_known names.now key.now))) }
 {
     match names.function(key) {
         None => Ok(()),
@@ -153,25 +154,40 @@ fn gather_under(
     Ok(())
 }
 
-/// What the group uses of its outside stands for each of its names, where the group's own text has ended.
+/// What the functions of a group use, whose names are bound then.
 #[cycle(gather)]
-fn gather_letrec(
-    items: &[Def],
+fn gather_group(items: &[Def], names: &mut Names, alloc: Global) -> Result<Uses, NoMemory>
+    ensures names { OnOk result (names.new ≡ named (defs (map def_view items.now)) names.old) }
+    ensures inside { OnOk result (IsInside names.old names.new) }
+    ensures uses { IfOk result (λ uses. uses
+        ≡ group_gathered (defs (map def_view items.now)) names.old) }
+{
+    bind_defs(items, names)?;
+    let within = names.len();
+    let mut inner = Uses::new(alloc);
+    gather_defs(items, names, within, &mut inner, alloc)?;
+    Ok(inner)
+}
+
+/// The body of a group, which uses these. What the group uses of its outside stands for each of its functions, once
+/// the group's own text has ended. The group is left.
+#[cycle(gather)]
+fn gather_rest(
     body: &Boxed<Expr>,
+    inner: Uses,
+    outside: u64,
     names: &mut Names,
     limit: u64,
     uses: &mut Uses,
     alloc: Global,
 ) -> Result<(), NoMemory>
-    ensures names { OnOk result (names.new ≡ names.old) }
-    ensures uses { (place : Place) → OnOk result (uses.new
-        ≡ gathered (letrec place (defs (map def_view items.now)) (view body.now)) names.old limit uses.old) }
+    requires { outside ≤ length names.old }
+    ensures names { OnOk result (names.new ≡ drop (length names.old - outside) names.old) }
+    ensures uses { OnOk result (uses.new
+        ≡ put_all limit uses.old (rest_gathered (view body.now) names.old outside inner)) }
 {
-    let outside = names.len();
-    bind_defs(items, names)?;
+    let mut inner = inner;
     let within = names.len();
-    let mut inner = Uses::new(alloc);
-    gather_defs(items, names, within, &mut inner, alloc)?;
     let captured = uses_below(alloc, outside, inner.as_slice())?;
     gather_boxed(body, names, within, &mut inner, alloc)?;
     names.leave(outside);
@@ -189,6 +205,7 @@ fn uses_below(alloc: Global, limit: u64, items: &[Used]) -> Result<Uses, NoMemor
 }
 
 /// Puts the uses, and what the group captures in its functions' stead.
+#[tactic(auto, using(crate::proofs::Puts::put_all_append))]
 fn put_expanded(
     alloc: Global,
     items: &[Used],
@@ -200,13 +217,26 @@ fn put_expanded(
     ensures { OnOk result (uses.new ≡ put_all limit uses.old (expanded (group_at outside captured.now) items.now)) }
 {
     for item in items {
-        if item.number() < outside {
-            uses.put(limit, item.copy(alloc)?)?;
-        } else {
-            put_moved(alloc, captured, item.place(), limit, uses)?;
-        }
+        put_outside(alloc, item, outside, captured, limit, uses)?;
     }
     Ok(())
+}
+
+fn put_outside(
+    alloc: Global,
+    item: &Used,
+    outside: u64,
+    captured: &[Used],
+    limit: u64,
+    uses: &mut Uses,
+) -> Result<(), NoMemory>
+    ensures { OnOk result (uses.new
+        ≡ put_all limit uses.old (instead (group_at outside captured.now item.now.number) item.now)) }
+{
+    if item.number() < outside {
+        return uses.put(limit, item.copy(alloc)?);
+    }
+    put_moved(alloc, captured, item.place(), limit, uses)
 }
 
 /// Puts the uses as if they stood at the place.
@@ -519,6 +549,7 @@ fn gather_seg(
 }
 
 #[cycle(gather)]
+#[tactic(auto, using(crate::proofs::Outside::with_names_append))]
 fn gather_segs(
     items: &[SegPattern],
     names: &mut Names,

@@ -1,11 +1,12 @@
 // The walk through a module that lists its functions, outer ones before those inside.
-ghost use Rattle.std.specs.Prelude.{◌≡◌, ◌∷◌, [], map, length, take, Some, None, OnOk, IfOk};
-ghost use Rattle.core_form.specs.Core.{letrec, fun};
-ghost use Rattle.core_form.specs.Scope.{with_names, names_of, params_of};
+ghost use Rattle.std.specs.Prelude.{◌≡◌, ◌≤◌, ◌-◌, ◌∷◌, [], map, length, take, drop, Some, None, OnOk, IfOk, option_copied};
+ghost use Rattle.core_form.specs.Core.{fun};
+ghost use Rattle.core_form.specs.Scope.{with_names, names_of};
 ghost use Rattle.core_form.specs.Sites.{module_sites};
 ghost use Rattle.core_form.specs.View.{view, part_view, segment_view, def_view, clause_view, module_view, exprs, parts, segments, defs, clauses};
-ghost use Rattle.core_sites.specs.Gathering.{gathered};
-ghost use Rattle.core_sites.specs.Listing.{binders_of, shown, padded, with_group, resolved, listing, own_listing, own_listings, listed, listed_all, listed_parts, listed_segments, listed_inside, listed_defs, listed_clauses, all_inside};
+ghost use Rattle.core_sites.specs.Things.{instead};
+ghost use Rattle.core_sites.specs.Gathering.{put_all, named, IsInside};
+ghost use Rattle.core_sites.specs.Listing.{binders_of, shown, held_at, padded, with_group, resolved, fun_captures, defs_capture, group_held, group_listed, told_site, listing, own_listing, own_listings, listed, listed_all, listed_parts, listed_segments, listed_inside, listed_defs, listed_clauses, all_inside, listed_module};
 
 use crate::bind::{bind_defs, bind_patterns, bind_vars};
 use crate::gather::{gather_defs, gather_expr, put_moved};
@@ -14,29 +15,59 @@ use core_form::{
     Binder, Binders, Clause, Def, Expr, ExprForm, MapPart, Module, Segment, Site, SiteList,
 };
 use core_names::Names;
-use erl_base::{Boxed, Duplicate, FunKey, List, NoMemory, Place};
+use erl_base::{Boxed, FunKey, List, NoMemory, Place};
 use std::alloc::Global;
 
 /// What functions capture, by how many bindings stand behind each; nothing for variables.
 type Held = List<Option<List<Used>>>;
 
+/// What is told of the functions so far: all of it, or how much each captures.
+#[derive(Drop)]
+enum Told {
+    Sites(SiteList),
+    Counts(List<u64>),
+}
+
 /// All functions of a module: its definitions, which capture nothing, and then the others in the order of the text.
 /// It takes the time of the text, once for each function that a part of it stands in, and of the captures.
+#[tactic(auto, using(crate::proofs::Lists::sites_told))]
 pub fn sites(alloc: Global, m: &Module) -> Result<SiteList, NoMemory>
     ensures { IfOk result (λ sites. sites ≡ map shown (module_sites (module_view m.now))) }
 {
-    let items = m.defs.as_slice();
+    let told = Told::Sites(List::new(alloc));
+    match tell_module(alloc, m.defs.as_slice(), told)? {
+        Told::Sites(sites) => Ok(sites),
+        Told::Counts(_) => Err(NoMemory),
+    }
+}
+
+/// How many variables each function captures, in the order of `sites`, in the time of that call. What is held at a
+/// time is the captures of the groups around one place.
+#[tactic(auto, using(crate::proofs::Lists::counts_told))]
+pub fn capture_counts(alloc: Global, m: &Module) -> Result<List<u64>, NoMemory>
+    ensures { IfOk result (λ counts. counts ≡ map (λ x. length x.captures) (module_sites (module_view m.now))) }
+{
+    let told = Told::Counts(List::new(alloc));
+    match tell_module(alloc, m.defs.as_slice(), told)? {
+        Told::Counts(counts) => Ok(counts),
+        Told::Sites(_) => Err(NoMemory),
+    }
+}
+
+fn tell_module(alloc: Global, items: &[Def], told: Told) -> Result<Told, NoMemory>
+    ensures { IfOk result (λ all. all ≡ listed_module (defs (map def_view items.now)) told) }
+{
     let mut names = Names::new(alloc);
     bind_defs(items, &mut names)?;
     let mut held = List::new(alloc);
     hold(alloc, items, &[], &mut held)?;
-    let mut out = List::new(alloc);
+    let mut out = told;
     list_own(alloc, items, &mut out)?;
     list_all_inside(alloc, items, &mut names, &mut held, &mut out)?;
     Ok(out)
 }
 
-fn list_own(alloc: Global, items: &[Def], out: &mut SiteList) -> Result<(), NoMemory>
+fn list_own(alloc: Global, items: &[Def], out: &mut Told) -> Result<(), NoMemory>
     ensures { OnOk result (out.new ≡ own_listings (defs (map def_view items.now)) out.old) }
 {
     for item in items {
@@ -50,7 +81,7 @@ fn list_all_inside(
     items: &[Def],
     names: &mut Names,
     held: &mut Held,
-    out: &mut SiteList,
+    out: &mut Told,
 ) -> Result<(), NoMemory>
     ensures { OnOk result (out.new
         ≡ all_inside (defs (map def_view items.now)) names.old held.old out.old) }
@@ -62,40 +93,66 @@ fn list_all_inside(
 }
 
 /// The function of a definition.
-fn put_own(alloc: Global, def: &Def, captures: &[Used], out: &mut SiteList) -> Result<(), NoMemory>
+fn put_own(alloc: Global, def: &Def, captures: &[Used], out: &mut Told) -> Result<(), NoMemory>
     ensures { OnOk result (out.new ≡ own_listing (def_view def.now) captures.now out.old) }
 {
-    let key = Some(def.key.copy(alloc)?);
-    let params = params_of(alloc, &def.fun)?;
-    put_site(alloc, def.place, key, params, captures, out)
-}
-
-fn params_of(alloc: Global, right: &Expr) -> Result<Binders, NoMemory>
-    ensures { IfOk result (λ params. params ≡ params_of (view right.now)) }
-{
-    if let ExprForm::Fun(params, _) = &right.form {
-        return params.copy(alloc);
+    let key = Some(&def.key);
+    if let ExprForm::Fun(params, _) = &def.fun.form {
+        return put_site(alloc, def.place, key, params.as_slice(), captures, out);
     }
-    Ok(List::new(alloc))
+    put_site(alloc, def.place, key, &[], captures, out)
 }
 
 fn put_site(
     alloc: Global,
     place: Place,
-    key: Option<FunKey>,
-    params: Binders,
+    key: Option<&FunKey>,
+    params: &[Binder],
     captures: &[Used],
-    out: &mut SiteList,
+    out: &mut Told,
 ) -> Result<(), NoMemory>
-    ensures { OnOk result (out.new ≡ listing place key params captures.now out.old) }
+    ensures { OnOk result (out.new ≡ listing place (option_copied key.entry) params.now captures.now out.old) }
 {
+    match out {
+        Told::Sites(sites) => {
+            let site = site(alloc, place, key, params, captures)?;
+            sites.push(site)
+        }
+        Told::Counts(counts) => counts.push(captures.len() as u64),
+    }
+}
+
+fn site(
+    alloc: Global,
+    place: Place,
+    key: Option<&FunKey>,
+    params: &[Binder],
+    captures: &[Used],
+) -> Result<Site, NoMemory>
+    ensures { IfOk result (λ site. site ≡ told_site place (option_copied key.entry) params.now captures.now) }
+{
+    let key = match key {
+        None => None,
+        Some(key) => Some(key.copy(alloc)?),
+    };
+    let params = copy_params(alloc, params)?;
     let captures = binders_of(alloc, captures)?;
-    out.push(Site {
+    Ok(Site {
         place,
         key,
         params,
         captures,
     })
+}
+
+fn copy_params(alloc: Global, items: &[Binder]) -> Result<Binders, NoMemory>
+    ensures { IfOk result (λ copy. copy ≡ items.now) }
+{
+    let mut copy = List::new(alloc);
+    for item in items {
+        copy.push(item.copy(alloc)?)?;
+    }
+    Ok(copy)
 }
 
 fn binders_of(alloc: Global, items: &[Used]) -> Result<Binders, NoMemory>
@@ -113,6 +170,7 @@ fn binders_of(alloc: Global, items: &[Used]) -> Result<Binders, NoMemory>
 }
 
 /// Puts what each function captures in its stead.
+#[tactic(auto, using(crate::proofs::Puts::put_all_append))]
 fn resolve(
     alloc: Global,
     held: &[Option<List<Used>>],
@@ -123,20 +181,35 @@ fn resolve(
 {
     let mut uses = Uses::new(alloc);
     for item in items {
-        match held.get(item.number() as usize) {
-            Some(Some(captures)) => {
-                put_moved(alloc, captures.as_slice(), item.place(), limit, &mut uses)?;
-            }
-            _ => uses.put(limit, item.copy(alloc)?)?,
-        }
+        put_held(alloc, held, item, limit, &mut uses)?;
     }
     Ok(uses.into_list())
+}
+
+fn put_held(
+    alloc: Global,
+    held: &[Option<List<Used>>],
+    item: &Used,
+    limit: u64,
+    uses: &mut Uses,
+) -> Result<(), NoMemory>
+    ensures { OnOk result (uses.new
+        ≡ put_all limit uses.old (instead (held_at held.now item.now.number) item.now)) }
+{
+    match held.get(item.number() as usize) {
+        None => uses.put(limit, item.copy(alloc)?),
+        Some(None) => uses.put(limit, item.copy(alloc)?),
+        Some(Some(captures)) => {
+            put_moved(alloc, captures.as_slice(), item.place(), limit, uses)
+        }
+    }
 }
 
 fn pad(length: u64, held: &mut Held) -> Result<(), NoMemory>
     ensures { OnOk result (held.new ≡ padded length held.old) }
 {
-    while (held.len() as u64) < length {
+    let missing = length.saturating_sub(held.len() as u64);
+    for i in 0..missing {
         held.push(None)?;
     }
     Ok(())
@@ -166,9 +239,43 @@ fn copy_uses(alloc: Global, items: &[Used]) -> Result<List<Used>, NoMemory>
 fn shorten(length: usize, held: &mut Held)
     ensures { held.new ≡ take length held.old }
 {
-    while held.len() > length {
+    let more = held.len().saturating_sub(length);
+    for i in 0..more {
         held.pop();
     }
+}
+
+/// What the functions of a group capture, whose names are bound; so many bindings stand outside of it.
+fn group_captures(
+    alloc: Global,
+    items: &[Def],
+    names: &mut Names,
+    outside: u64,
+    held: &[Option<List<Used>>],
+) -> Result<List<Used>, NoMemory>
+    ensures names { OnOk result (names.new ≡ names.old) }
+    ensures captures { IfOk result (λ uses. uses
+        ≡ defs_capture (defs (map def_view items.now)) names.old outside held.now) }
+{
+    let mut uses = Uses::new(alloc);
+    gather_defs(items, names, outside, &mut uses, alloc)?;
+    resolve(alloc, held, outside, uses.as_slice())
+}
+
+/// What a fun with this body captures, whose parameters are bound; so many bindings stand outside of it.
+fn fun_captures(
+    alloc: Global,
+    body: &Expr,
+    names: &mut Names,
+    outside: u64,
+    held: &[Option<List<Used>>],
+) -> Result<List<Used>, NoMemory>
+    ensures names { OnOk result (names.new ≡ names.old) }
+    ensures captures { IfOk result (λ uses. uses ≡ fun_captures (view body.now) names.old outside held.now) }
+{
+    let mut uses = Uses::new(alloc);
+    gather_expr(body, names, outside, &mut uses, alloc)?;
+    resolve(alloc, held, outside, uses.as_slice())
 }
 
 #[cycle(list)]
@@ -176,7 +283,7 @@ fn list_expr(
     expr: &Expr,
     names: &mut Names,
     held: &mut Held,
-    out: &mut SiteList,
+    out: &mut Told,
     alloc: Global,
 ) -> Result<(), NoMemory>
     ensures names { OnOk result (names.new ≡ names.old) }
@@ -208,7 +315,10 @@ fn list_expr(
             list_under(vars.as_slice(), body, names, held, out, alloc)
         }
         ExprForm::Letrec(defs, body) => {
-            list_letrec(defs.as_slice(), body, names, held, out, alloc)
+            let outside = names.len();
+            let held_outside = held.len();
+            list_group(defs.as_slice(), names, held, out, alloc)?;
+            list_rest(body, outside, held_outside, names, held, out, alloc)
         }
         ExprForm::Case(subject, clauses) => {
             list_boxed(subject, names, held, out, alloc)?;
@@ -252,7 +362,7 @@ fn list_fun(
     body: &Boxed<Expr>,
     names: &mut Names,
     held: &mut Held,
-    out: &mut SiteList,
+    out: &mut Told,
     alloc: Global,
 ) -> Result<(), NoMemory>
     ensures names { OnOk result (names.new ≡ names.old) }
@@ -261,11 +371,8 @@ fn list_fun(
 {
     let outside = names.len();
     bind_vars(params.as_slice(), names)?;
-    let mut uses = Uses::new(alloc);
-    gather_expr(body.get(), names, outside, &mut uses, alloc)?;
-    let captures = resolve(alloc, held.as_slice(), outside, uses.as_slice())?;
-    let params = params.copy(alloc)?;
-    put_site(alloc, place, None, params, captures.as_slice(), out)?;
+    let captures = fun_captures(alloc, body.get(), names, outside, held.as_slice())?;
+    put_site(alloc, place, None, params.as_slice(), captures.as_slice(), out)?;
     list_boxed(body, names, held, out, alloc)?;
     names.leave(outside);
     Ok(())
@@ -278,7 +385,7 @@ fn list_under(
     body: &Boxed<Expr>,
     names: &mut Names,
     held: &mut Held,
-    out: &mut SiteList,
+    out: &mut Told,
     alloc: Global,
 ) -> Result<(), NoMemory>
     ensures names { OnOk result (names.new ≡ names.old) }
@@ -293,30 +400,46 @@ fn list_under(
     Ok(())
 }
 
-/// The functions of a group, with those in them, and the functions of the body.
+/// The functions of a group, with those in them; its names are bound then, and its captures held.
 #[cycle(list)]
-fn list_letrec(
+fn list_group(
     items: &[Def],
-    body: &Boxed<Expr>,
     names: &mut Names,
     held: &mut Held,
-    out: &mut SiteList,
+    out: &mut Told,
     alloc: Global,
 ) -> Result<(), NoMemory>
-    ensures names { OnOk result (names.new ≡ names.old) }
-    ensures held { OnOk result (held.new ≡ held.old) }
-    ensures sites { (place : Place) → OnOk result (out.new
-        ≡ listed (letrec place (defs (map def_view items.now)) (view body.now)) names.old held.old out.old) }
+    ensures names { OnOk result (names.new ≡ named (defs (map def_view items.now)) names.old) }
+    ensures inside { OnOk result (IsInside names.old names.new) }
+    ensures behind { OnOk result (take (length held.old) held.new ≡ held.old) }
+    ensures held { OnOk result (held.new ≡ group_held (defs (map def_view items.now)) names.old held.old) }
+    ensures sites { OnOk result (out.new ≡ group_listed (defs (map def_view items.now)) names.old held.old out.old) }
 {
     let outside = names.len();
-    let held_outside = held.len();
     bind_defs(items, names)?;
-    let mut uses = Uses::new(alloc);
-    gather_defs(items, names, outside, &mut uses, alloc)?;
-    let captures = resolve(alloc, held.as_slice(), outside, uses.as_slice())?;
+    let captures = group_captures(alloc, items, names, outside, held.as_slice())?;
     pad(outside, held)?;
     hold(alloc, items, captures.as_slice(), held)?;
     list_defs(items, captures.as_slice(), names, held, out, alloc)?;
+    Ok(())
+}
+
+/// The functions in the body of a group, which is left.
+#[cycle(list)]
+fn list_rest(
+    body: &Boxed<Expr>,
+    outside: u64,
+    held_outside: usize,
+    names: &mut Names,
+    held: &mut Held,
+    out: &mut Told,
+    alloc: Global,
+) -> Result<(), NoMemory>
+    requires { outside ≤ length names.old }
+    ensures names { OnOk result (names.new ≡ drop (length names.old - outside) names.old) }
+    ensures held { OnOk result (held.new ≡ take held_outside held.old) }
+    ensures sites { OnOk result (out.new ≡ listed (view body.now) names.old held.old out.old) }
+{
     list_boxed(body, names, held, out, alloc)?;
     shorten(held_outside, held);
     names.leave(outside);
@@ -328,7 +451,7 @@ fn list_boxed(
     expr: &Boxed<Expr>,
     names: &mut Names,
     held: &mut Held,
-    out: &mut SiteList,
+    out: &mut Told,
     alloc: Global,
 ) -> Result<(), NoMemory>
     ensures names { OnOk result (names.new ≡ names.old) }
@@ -343,7 +466,7 @@ fn list_exprs(
     items: &[Expr],
     names: &mut Names,
     held: &mut Held,
-    out: &mut SiteList,
+    out: &mut Told,
     alloc: Global,
 ) -> Result<(), NoMemory>
     ensures names { OnOk result (names.new ≡ names.old) }
@@ -361,7 +484,7 @@ fn list_part(
     part: &MapPart,
     names: &mut Names,
     held: &mut Held,
-    out: &mut SiteList,
+    out: &mut Told,
     alloc: Global,
 ) -> Result<(), NoMemory>
     ensures names { OnOk result (names.new ≡ names.old) }
@@ -377,7 +500,7 @@ fn list_parts(
     items: &[MapPart],
     names: &mut Names,
     held: &mut Held,
-    out: &mut SiteList,
+    out: &mut Told,
     alloc: Global,
 ) -> Result<(), NoMemory>
     ensures names { OnOk result (names.new ≡ names.old) }
@@ -395,7 +518,7 @@ fn list_segment(
     segment: &Segment,
     names: &mut Names,
     held: &mut Held,
-    out: &mut SiteList,
+    out: &mut Told,
     alloc: Global,
 ) -> Result<(), NoMemory>
     ensures names { OnOk result (names.new ≡ names.old) }
@@ -412,7 +535,7 @@ fn list_segments(
     items: &[Segment],
     names: &mut Names,
     held: &mut Held,
-    out: &mut SiteList,
+    out: &mut Told,
     alloc: Global,
 ) -> Result<(), NoMemory>
     ensures names { OnOk result (names.new ≡ names.old) }
@@ -432,7 +555,7 @@ fn list_inside(
     def: &Def,
     names: &mut Names,
     held: &mut Held,
-    out: &mut SiteList,
+    out: &mut Told,
     alloc: Global,
 ) -> Result<(), NoMemory>
     ensures names { OnOk result (names.new ≡ names.old) }
@@ -451,7 +574,7 @@ fn list_def(
     captures: &[Used],
     names: &mut Names,
     held: &mut Held,
-    out: &mut SiteList,
+    out: &mut Told,
     alloc: Global,
 ) -> Result<(), NoMemory>
     ensures names { OnOk result (names.new ≡ names.old) }
@@ -469,7 +592,7 @@ fn list_defs(
     captures: &[Used],
     names: &mut Names,
     held: &mut Held,
-    out: &mut SiteList,
+    out: &mut Told,
     alloc: Global,
 ) -> Result<(), NoMemory>
     ensures names { OnOk result (names.new ≡ names.old) }
@@ -488,7 +611,7 @@ fn list_clause(
     clause: &Clause,
     names: &mut Names,
     held: &mut Held,
-    out: &mut SiteList,
+    out: &mut Told,
     alloc: Global,
 ) -> Result<(), NoMemory>
     ensures names { OnOk result (names.new ≡ names.old) }
@@ -509,7 +632,7 @@ fn list_clauses(
     items: &[Clause],
     names: &mut Names,
     held: &mut Held,
-    out: &mut SiteList,
+    out: &mut Told,
     alloc: Global,
 ) -> Result<(), NoMemory>
     ensures names { OnOk result (names.new ≡ names.old) }
