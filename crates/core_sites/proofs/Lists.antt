@@ -6,6 +6,7 @@ use Rattle.erl_base.specs.Names.{Name, same_name, same_key}
 use Rattle.erl_base.specs.declared.ids.Place.{Place}
 use Rattle.erl_base.specs.declared.ids.FunKey.{FunKey}
 use Rattle.core_form.specs.declared.tree.Binder.{Binder}
+use Rattle.core_form.specs.declared.module.Site.{Site}
 use Rattle.core_sites.specs.declared.listing.Told.{Told}
 use Rattle.core_sites.specs.declared.listing.Told.TheVariants.{Sites, Counts}
 use Rattle.core_form.specs.Core.{Module, Expr, values, var, fun_name, literal, list, tuple, new_map, map_of, binary, fun, let_in, letrec, case, apply, call, primop, do_then, catch, try, receive, Exprs, no_expr, and_expr, MapParts, no_part, and_part, map_part, Segments, no_segment, and_segment, segment, Defs, no_def, and_def, def, Clauses, no_clause, and_clause, clause}
@@ -15,7 +16,7 @@ use Rattle.core_form.specs.Sites as Plain
 use Rattle.core_form.specs.Sites.{fun_site, named_site, sites, sites_all, sites_parts, sites_segments, sites_defs, sites_clauses, module_scope, def_count, own_sites, inner_sites, module_sites}
 use Rattle.core_sites.specs.Things.{use_at, unexpanded, instead, expanded, captures_at, below, IsNumbered}
 use Rattle.core_sites.specs.Gathering.{put_all, named, gathered, gathered_defs}
-use Rattle.core_sites.specs.Listing.{Held, one_of, held_at, padded, with_group, binders_of, shown, resolved, defs_capture, group_held, listing, own_listing, own_listings, listed, listed_all, listed_parts, listed_segments, listed_inside, listed_defs, listed_clauses, all_inside, listed_module}
+use Rattle.core_sites.specs.Listing.{Held, one_of, held_at, padded, with_group, binders_of, shown, resolved, defs_capture, group_held, listing, own_listing, own_listings, listed, listed_all, listed_parts, listed_segments, listed_inside, right_listed, listed_defs, listed_clauses, all_inside, listed_module}
 use Rattle.core_sites.proofs.Alike.{equal, below_more, below_once, expanded_none, IsLow}
 use Rattle.core_sites.proofs.Stands.{Reads, Fits, stands, stands_defs}
 use Rattle.core_sites.proofs.Captured.{at_outer, at_more, binding_unexpanded, length_unexpanded, binding_within, captures_expanded, group_captures_expanded}
@@ -364,9 +365,33 @@ module_told m out =
     (onward (lists_own m.defs (module_scope m.defs 0 []) (def_count m.defs) out)
     (lists_inside m.defs (def_count m.defs) _ (level_module m.defs 0 nothing).tied)).is
 
-pub sites_told : (m : Module) → listed_module m.defs (Sites []) ≡ Sites (map shown (module_sites m))
+sites_told : (m : Module) → listed_module m.defs (Sites []) ≡ Sites (map shown (module_sites m))
 sites_told m = module_told m (Sites [])
 
-pub counts_told : (m : Module)
+counts_told : (m : Module)
     → listed_module m.defs (Counts []) ≡ Counts (map (λ x. length x.captures) (module_sites m))
 counts_told m = module_told m (Counts [])
+
+sites_of : Told → List Site
+sites_of (Sites out) = out
+sites_of (Counts out) = []
+
+counts_of : Told → List ℕ
+counts_of (Sites out) = []
+counts_of (Counts out) = out
+
+pub all_sites : (m : Module) (all : Told) (xs : List Site) → all ≡ listed_module m.defs (Sites []) → all ≡ Sites xs
+    → xs ≡ map shown (module_sites m)
+unfolding sites_of
+all_sites m all xs h e = ap sites_of (sym e ∙ h ∙ sites_told m)
+
+pub all_counts : (m : Module) (all : Told) (ns : List ℕ) → all ≡ listed_module m.defs (Counts []) → all ≡ Counts ns
+    → ns ≡ map (λ x. length x.captures) (module_sites m)
+unfolding counts_of
+all_counts m all ns h e = ap counts_of (sym e ∙ h ∙ counts_told m)
+
+-- a definition's functions are those of its right side
+pub inside_right : (p : Place) (f : FunKey) (e : Expr) (g : Scope) (st : Held) (out : Told)
+    → listed_inside (def p f e) g st out ≡ right_listed e g st out
+inside_right p f (fun q xs e) g st out = refl
+inside_right p f e g st out = refl

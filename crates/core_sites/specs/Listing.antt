@@ -26,11 +26,12 @@ shown x = record { place = x.place; key = x.key; params = x.params; captures = b
 abbrev pub Held : Type 0
 Held = List (Option (List Use))
 
--- of a number that no function has
+-- what is held, if anything
 abbrev pub one_of : Option (Option (List Use)) → Option (List Use)
 one_of None = None
 one_of (Some o) = o
 
+-- what the function with so many bindings behind it captures, if it is held
 abbrev pub held_at : Held → ℕ → Option (List Use)
 held_at st n = one_of (slice_get st n)
 
@@ -136,6 +137,11 @@ abbrev mutual
   listed_clauses (and_clause (clause p qs e b) cs) g st out =
       let h = with_names g (bound_all qs) in
       listed_clauses cs g st (listed b h st (listed e h st out))
+
+-- the functions inside of a right side
+abbrev pub right_listed : Expr → Scope → Held → Told → Told
+right_listed (fun q xs e) g st out = listed e (with_names g (names_of xs)) st out
+right_listed e g st out = listed e g st out
 
 -- the functions of a group, with those in them
 abbrev pub group_listed : Defs → Scope → Held → Told → Told

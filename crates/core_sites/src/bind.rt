@@ -1,5 +1,5 @@
 // Binding what a form binds, and leaving it.
-ghost use Rattle.std.specs.Prelude.{◌≡◌, map, OnOk};
+ghost use Rattle.std.specs.Prelude.{◌≡◌, ◌-◌, map, length, drop, OnOk};
 ghost use Rattle.core_form.specs.Scope.{with_names, names_of, bound, bound_all, bound_keys, bound_segs};
 ghost use Rattle.core_form.specs.View.{def_view, pattern_view, defs, patterns, keys, segs};
 ghost use Rattle.core_sites.specs.Readings.{key_view, seg_view};
@@ -29,9 +29,17 @@ pub(crate) fn bind_defs(items: &[Def], names: &mut Names) -> Result<(), NoMemory
     Ok(())
 }
 
+/// Leaves the innermost bindings where there are more than so many.
+pub(crate) fn leave_to(outside: u64, names: &mut Names)
+    ensures { names.new ≡ drop (length names.old - outside) names.old }
+{
+    if outside <= names.len() {
+        names.leave(outside);
+    }
+}
+
 /// Binds the variables of a pattern.
 #[cycle(bind)]
-#[tactic(auto, using(crate::proofs::Outside::with_names_append))]
 pub(crate) fn bind_pattern(pattern: &Pattern, names: &mut Names) -> Result<(), NoMemory>
     ensures ok { OnOk result (names.new ≡ with_names names.old (bound (pattern_view pattern.now))) }
 {
@@ -60,7 +68,6 @@ fn bind_boxed(pattern: &Boxed<Pattern>, names: &mut Names) -> Result<(), NoMemor
 }
 
 #[cycle(bind)]
-#[tactic(auto, using(crate::proofs::Outside::with_names_append))]
 pub(crate) fn bind_patterns(items: &[Pattern], names: &mut Names) -> Result<(), NoMemory>
     ensures ok { OnOk result (names.new ≡ with_names names.old (bound_all (patterns (map pattern_view items.now)))) }
 {
@@ -78,7 +85,6 @@ fn bind_key(key: &KeyPattern, names: &mut Names) -> Result<(), NoMemory>
 }
 
 #[cycle(bind)]
-#[tactic(auto, using(crate::proofs::Outside::with_names_append))]
 fn bind_keys(items: &[KeyPattern], names: &mut Names) -> Result<(), NoMemory>
     ensures ok { OnOk result (names.new ≡ with_names names.old (bound_keys (keys (map key_view items.now)))) }
 {
@@ -96,7 +102,6 @@ fn bind_seg(segment: &SegPattern, names: &mut Names) -> Result<(), NoMemory>
 }
 
 #[cycle(bind)]
-#[tactic(auto, using(crate::proofs::Outside::with_names_append))]
 fn bind_segs(items: &[SegPattern], names: &mut Names) -> Result<(), NoMemory>
     ensures ok { OnOk result (names.new ≡ with_names names.old (bound_segs (segs (map seg_view items.now)))) }
 {

@@ -1,5 +1,5 @@
 // The walk through a text that gathers what it uses of the scope around it.
-ghost use Rattle.std.specs.Prelude.{◌≡◌, ◌≤◌, ◌-◌, ◌∷◌, [], map, length, drop, OnOk, IfOk};
+ghost use Rattle.std.specs.Prelude.{◌≡◌, ◌-◌, ◌∷◌, [], map, length, drop, OnOk, IfOk};
 ghost use Rattle.core_form.specs.Scope.{binding, with_names, names_of, bound, bound_segs};
 ghost use Rattle.core_form.specs.Captures.{found, placed};
 ghost use Rattle.core_form.specs.View.{view, part_view, segment_view, def_view, clause_view, pattern_view, exprs, parts, segments, defs, clauses, patterns, keys, segs};
@@ -8,7 +8,7 @@ ghost use Rattle.core_sites.specs.Readings.{key_view, seg_view};
 ghost use Rattle.core_sites.specs.Things.{instead, expanded};
 ghost use Rattle.core_sites.specs.Gathering.{put_all, thing, named, group_at, group_gathered, rest_gathered, IsInside, gathered, gathered_all, gathered_parts, gathered_segments, gathered_defs, gathered_clauses, gathered_pattern, gathered_patterns, gathered_keys, gathered_segs};
 
-use crate::bind::{bind_defs, bind_pattern, bind_patterns, bind_vars};
+use crate::bind::{bind_defs, bind_pattern, bind_patterns, bind_vars, leave_to};
 use crate::used::{Used, Uses};
 use core_form::{
     Binder, Clause, Def, Expr, ExprForm, KeyPattern, MapPart, Pattern, PatternForm,
@@ -181,7 +181,6 @@ fn gather_rest(
     uses: &mut Uses,
     alloc: Global,
 ) -> Result<(), NoMemory>
-    requires { outside ≤ length names.old }
     ensures names { OnOk result (names.new ≡ drop (length names.old - outside) names.old) }
     ensures uses { OnOk result (uses.new
         ≡ put_all limit uses.old (rest_gathered (view body.now) names.old outside inner)) }
@@ -190,7 +189,7 @@ fn gather_rest(
     let within = names.len();
     let captured = uses_below(alloc, outside, inner.as_slice())?;
     gather_boxed(body, names, within, &mut inner, alloc)?;
-    names.leave(outside);
+    leave_to(outside, names);
     put_expanded(alloc, inner.as_slice(), outside, captured.as_slice(), limit, uses)
 }
 
@@ -205,7 +204,6 @@ fn uses_below(alloc: Global, limit: u64, items: &[Used]) -> Result<Uses, NoMemor
 }
 
 /// Puts the uses, and what the group captures in its functions' stead.
-#[tactic(auto, using(crate::proofs::Puts::put_all_append))]
 fn put_expanded(
     alloc: Global,
     items: &[Used],
@@ -549,7 +547,6 @@ fn gather_seg(
 }
 
 #[cycle(gather)]
-#[tactic(auto, using(crate::proofs::Outside::with_names_append))]
 fn gather_segs(
     items: &[SegPattern],
     names: &mut Names,

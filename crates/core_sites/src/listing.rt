@@ -1,14 +1,14 @@
 // The walk through a module that lists its functions, outer ones before those inside.
-ghost use Rattle.std.specs.Prelude.{◌≡◌, ◌≤◌, ◌-◌, ◌∷◌, [], map, length, take, drop, Some, None, OnOk, IfOk, option_copied};
+ghost use Rattle.std.specs.Prelude.{◌≡◌, ◌-◌, ◌∷◌, [], map, length, take, drop, Some, None, OnOk, IfOk, option_copied};
 ghost use Rattle.core_form.specs.Core.{fun};
 ghost use Rattle.core_form.specs.Scope.{with_names, names_of};
 ghost use Rattle.core_form.specs.Sites.{module_sites};
 ghost use Rattle.core_form.specs.View.{view, part_view, segment_view, def_view, clause_view, module_view, exprs, parts, segments, defs, clauses};
 ghost use Rattle.core_sites.specs.Things.{instead};
 ghost use Rattle.core_sites.specs.Gathering.{put_all, named, IsInside};
-ghost use Rattle.core_sites.specs.Listing.{binders_of, shown, held_at, padded, with_group, resolved, fun_captures, defs_capture, group_held, group_listed, told_site, listing, own_listing, own_listings, listed, listed_all, listed_parts, listed_segments, listed_inside, listed_defs, listed_clauses, all_inside, listed_module};
+ghost use Rattle.core_sites.specs.Listing.{binders_of, shown, held_at, padded, with_group, resolved, fun_captures, defs_capture, group_held, group_listed, told_site, listing, own_listing, own_listings, listed, listed_all, listed_parts, listed_segments, listed_inside, right_listed, listed_defs, listed_clauses, all_inside, listed_module};
 
-use crate::bind::{bind_defs, bind_patterns, bind_vars};
+use crate::bind::{bind_defs, bind_patterns, bind_vars, leave_to};
 use crate::gather::{gather_defs, gather_expr, put_moved};
 use crate::used::{Used, Uses};
 use core_form::{
@@ -30,7 +30,6 @@ enum Told {
 
 /// All functions of a module: its definitions, which capture nothing, and then the others in the order of the text.
 /// It takes the time of the text, once for each function that a part of it stands in, and of the captures.
-#[tactic(auto, using(crate::proofs::Lists::sites_told))]
 pub fn sites(alloc: Global, m: &Module) -> Result<SiteList, NoMemory>
     ensures { IfOk result (λ sites. sites ≡ map shown (module_sites (module_view m.now))) }
 {
@@ -43,7 +42,6 @@ pub fn sites(alloc: Global, m: &Module) -> Result<SiteList, NoMemory>
 
 /// How many variables each function captures, in the order of `sites`, in the time of that call. What is held at a
 /// time is the captures of the groups around one place.
-#[tactic(auto, using(crate::proofs::Lists::counts_told))]
 pub fn capture_counts(alloc: Global, m: &Module) -> Result<List<u64>, NoMemory>
     ensures { IfOk result (λ counts. counts ≡ map (λ x. length x.captures) (module_sites (module_view m.now))) }
 {
@@ -170,7 +168,6 @@ fn binders_of(alloc: Global, items: &[Used]) -> Result<Binders, NoMemory>
 }
 
 /// Puts what each function captures in its stead.
-#[tactic(auto, using(crate::proofs::Puts::put_all_append))]
 fn resolve(
     alloc: Global,
     held: &[Option<List<Used>>],
@@ -435,14 +432,13 @@ fn list_rest(
     out: &mut Told,
     alloc: Global,
 ) -> Result<(), NoMemory>
-    requires { outside ≤ length names.old }
     ensures names { OnOk result (names.new ≡ drop (length names.old - outside) names.old) }
     ensures held { OnOk result (held.new ≡ take held_outside held.old) }
     ensures sites { OnOk result (out.new ≡ listed (view body.now) names.old held.old out.old) }
 {
     list_boxed(body, names, held, out, alloc)?;
     shorten(held_outside, held);
-    names.leave(outside);
+    leave_to(outside, names);
     Ok(())
 }
 
@@ -562,10 +558,26 @@ fn list_inside(
     ensures held { OnOk result (held.new ≡ held.old) }
     ensures sites { OnOk result (out.new ≡ listed_inside (def_view def.now) names.old held.old out.old) }
 {
-    if let ExprForm::Fun(params, body) = &def.fun.form {
+    list_right(&def.fun, names, held, out, alloc)
+}
+
+/// The functions inside of a right side; one that is no fun is the body of a function.
+#[cycle(list)]
+fn list_right(
+    right: &Expr,
+    names: &mut Names,
+    held: &mut Held,
+    out: &mut Told,
+    alloc: Global,
+) -> Result<(), NoMemory>
+    ensures names { OnOk result (names.new ≡ names.old) }
+    ensures held { OnOk result (held.new ≡ held.old) }
+    ensures sites { OnOk result (out.new ≡ right_listed (view right.now) names.old held.old out.old) }
+{
+    if let ExprForm::Fun(params, body) = &right.form {
         return list_under(params.as_slice(), body, names, held, out, alloc);
     }
-    list_expr(&def.fun, names, held, out, alloc)
+    list_expr(right, names, held, out, alloc)
 }
 
 #[cycle(list)]

@@ -1,4 +1,5 @@
-use Rattle.std.proofs.Common.{◌≡◌, ◌∙◌, ◌+◌, ◌-◌, ◌∷◌, sym, ap, refl, subst, drop, length, OnOk, arith}
+use Rattle.std.proofs.Common.{rules, ◌≡◌, ◌∙◌, ◌+◌, ◌-◌, ◌∷◌, [], sym, ap, subst, drop, length, OnOk, arith}
+use Rattle.core_form.specs.declared.tree.ExprForm.{the_lemmas}
 use Rattle.core_form.specs.Scope.{with_names, names_of, bound, bound_all, bound_segs}
 use Rattle.core_form.specs.View.{def_view, pattern_view, patterns, segs, defs}
 use Rattle.std.proofs.Common.{map}
@@ -52,12 +53,6 @@ gather_group-returns-clause-inside n c =
     inside_named (defs (map def_view c.args.items.now)) c.args.names.now c.gather_defs.new.names
     (c.in_ok-gather_defs.ensures.names ∙ c.in_ok-bind_defs.ensures.ok)
 
-pub gather_expr-gather_rest-requires : goal.gather_expr-gather_rest-requires
-gather_expr-gather_rest-requires n c =
-    let e = c.len-outside.ensures.value in
-    let h = c.in_ok-inner-in-Letrec.ensures.inside.longer in
-    omega (arith, e, h)
-
 pub gather_expr-returns-in_ok-inner-in-Letrec-clause-names : goal.gather_expr-returns-in_ok-inner-in-Letrec-clause-names
 gather_expr-returns-in_ok-inner-in-Letrec-clause-names n c =
     subst (λ g. OnOk c.gather_rest.result (c.gather_rest.new.names ≡ g))
@@ -66,17 +61,26 @@ gather_expr-returns-in_ok-inner-in-Letrec-clause-names n c =
     c.gather_rest.ensures.names
 
 pub gather_segs-loop-item-preserved : goal.gather_segs-loop-item-preserved
-gather_segs-loop-item-preserved n c = record {
-  names =
-      acted with_names with_names_append (λ xs. bound_segs (segs (map seg_view xs))) c.loop-item.names
-      c.gather_seg.new.names c.args.items.now c.loop-item.item-index c.item-item.result
-      (bound (pattern_view c.item-item.result.value)) c.item-item.is c.loop-item-test.true
-      c.in_ok-gather_seg.ensures.names refl
-      ∙ c.loop-item.invariant.names;
-  uses =
-      (λ i. gathered_segs (segs (map seg_view (drop (c.loop-item.item-index + 1) c.args.items.now)))
-      (c.in_ok-gather_seg.ensures.names i) c.args.limit (c.in_ok-gather_seg.ensures.uses i))
-      ∙ ap (λ xs. gathered_segs (segs (map seg_view xs)) c.loop-item.names c.args.limit c.loop-item.uses)
-      (sym (next c.args.items.now c.loop-item.item-index c.item-item.result c.item-item.is c.loop-item-test.true))
-      ∙ c.loop-item.invariant.uses;
-}
+gather_segs-loop-item-preserved n c =
+    let one : gathered_segs (segs (map seg_view (drop (c.loop-item.item-index + 1) c.args.items.now)))
+        (with_names c.loop-item.names (bound (pattern_view c.item-item.result.value))) c.args.limit
+        (gathered_segs (segs (seg_view c.item-item.result ∷ [])) c.loop-item.names c.args.limit c.loop-item.uses)
+        ≡ gathered_segs
+        (segs (map seg_view (c.item-item.result ∷ drop (c.loop-item.item-index + 1) c.args.items.now)))
+        c.loop-item.names c.args.limit c.loop-item.uses
+        = search (rules, the_lemmas) in
+    record {
+      names =
+          acted with_names with_names_append (λ xs. bound_segs (segs (map seg_view xs))) c.loop-item.names
+          c.gather_seg.new.names c.args.items.now c.loop-item.item-index c.item-item.result
+          (bound (pattern_view c.item-item.result.value)) c.item-item.is c.loop-item-test.true
+          c.in_ok-gather_seg.ensures.names (search (rules, the_lemmas))
+          ∙ c.loop-item.invariant.names;
+      uses =
+          (λ i. gathered_segs (segs (map seg_view (drop (c.loop-item.item-index + 1) c.args.items.now)))
+          (c.in_ok-gather_seg.ensures.names i) c.args.limit (c.in_ok-gather_seg.ensures.uses i))
+          ∙ one
+          ∙ ap (λ xs. gathered_segs (segs (map seg_view xs)) c.loop-item.names c.args.limit c.loop-item.uses)
+          (sym (next c.args.items.now c.loop-item.item-index c.item-item.result c.item-item.is c.loop-item-test.true))
+          ∙ c.loop-item.invariant.uses;
+    }

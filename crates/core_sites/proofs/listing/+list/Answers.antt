@@ -1,8 +1,11 @@
-use Rattle.std.proofs.Common.{◌≡◌, ◌∙◌, ◌-◌, ap, subst, map, drop, take, length, OnOk, arith}
+use Rattle.std.proofs.Common.{◌≡◌, ◌∙◌, rules, ◌-◌, sym, ap, refl, subst, map, drop, take, length, OnOk, arith}
+use Rattle.core_form.specs.declared.tree.ExprForm.{the_lemmas}
+use Rattle.core_form.specs.Core as Plain
 use Rattle.core_form.specs.Scope.{names_of, bound_all}
-use Rattle.core_form.specs.View.{def_view, pattern_view, defs, patterns}
+use Rattle.core_form.specs.View.{view, def_view, pattern_view, defs, patterns}
 use Rattle.core_sites.specs.Gathering.{named}
-use Rattle.core_sites.specs.Listing.{defs_capture}
+use Rattle.core_sites.specs.Listing.{with_group, listed_inside}
+use Rattle.core_sites.proofs.Lists.{inside_right}
 use Rattle.core_sites.proofs.Outside.{inner_names, longer, left, inside_named, held_left}
 use Rattle.core_sites.proofs.listing.+list.Goals as goal
 
@@ -50,12 +53,6 @@ list_group-returns-clause-inside n c =
     inside_named (defs (map def_view c.args.items.now)) c.args.names.now c.list_defs.new.names
     (c.in_ok-list_defs.ensures.names ∙ c.in_ok-captures.ensures.names ∙ c.in_ok-bind_defs.ensures.ok)
 
-pub list_expr-list_rest-requires : goal.list_expr-list_rest-requires
-list_expr-list_rest-requires n c =
-    let e = c.len-outside.ensures.value in
-    let h = c.in_ok-list_group-in-Letrec.ensures.inside.longer in
-    omega (arith, e, h)
-
 pub list_expr-returns-in_ok-list_group-in-Letrec-clause-names : goal.list_expr-returns-in_ok-list_group-in-Letrec-clause-names
 list_expr-returns-in_ok-list_group-in-Letrec-clause-names n c =
     subst (λ g. OnOk c.list_rest.result (c.list_rest.new.names ≡ g))
@@ -69,3 +66,28 @@ list_expr-returns-in_ok-list_group-in-Letrec-clause-held n c =
     (ap (λ k. take k c.list_group.new.held) c.len-held_outside.ensures.value
     ∙ c.in_ok-list_group-in-Letrec.ensures.behind)
     c.list_rest.ensures.held
+
+pub list_group-returns-clause-behind : goal.list_group-returns-clause-behind
+list_group-returns-clause-behind n c =
+    held_left c.args.held.now c.list_defs.new.held c.len-outside.result (length c.args.held.now)
+    (defs (map def_view c.args.items.now)) c.as_slice-2.result.now
+    (c.in_ok-list_defs.ensures.held ∙ c.in_ok-hold.ensures
+    ∙ ap (λ st. with_group (defs (map def_view c.args.items.now)) c.as_slice-2.result.now st) c.in_ok-pad.ensures)
+    refl
+
+pub list_inside-returns-clause-sites : goal.list_inside-returns-clause-sites
+list_inside-returns-clause-sites n c =
+    let split : def_view c.args.def.now
+        ≡ Plain.def c.args.def.now.place c.args.def.now.key (view c.args.def.now.fun)
+        = search (rules, the_lemmas) in
+    subst (λ t. OnOk c.list_right.result (c.list_right.new.out ≡ t))
+    (sym (ap (λ d. listed_inside d c.args.names.now c.args.held.now c.args.out.now) split
+    ∙ inside_right c.args.def.now.place c.args.def.now.key (view c.args.def.now.fun) c.args.names.now c.args.held.now
+    c.args.out.now))
+    c.list_right.ensures.sites
+
+pub list_right-returns-clause-names : goal.list_right-returns-clause-names
+list_right-returns-clause-names n c = c.list_expr.ensures.names
+
+pub list_right-returns-clause-held : goal.list_right-returns-clause-held
+list_right-returns-clause-held n c = c.list_expr.ensures.held

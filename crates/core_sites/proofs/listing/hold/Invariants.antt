@@ -5,5 +5,5 @@ use Rattle.core_sites.proofs.listing.hold.Given as goal
 
 abbrev pub invariant-loop-item : goal.invariant-loop-item
 invariant-loop-item l =
-    with_group (defs (map def_view (drop l.item-index l.items))) l.captures l.held
+    with_group (defs (map def_view (drop l._item-index l.items))) l.captures l.held
     ≡ with_group (defs (map def_view l.items)) l.captures l.initial.held
