@@ -6,7 +6,7 @@ ghost use Rattle.core_form.specs.View.{view, def_view, module_view, defs};
 ghost use Rattle.core_profile.specs.Counted.{counted};
 ghost use Rattle.core_profile.specs.LimitFaults.{limit_faults, IsFirstLimitFault, capture_counts, counted_in_text, export_limits};
 ghost use Rattle.core_profile.specs.LimitWalk.{walk_module, walk_definition, definition_end, head_count};
-ghost use Rattle.core_sites.specs.Shown.{shown};
+ghost use Rattle.core_sites.specs.Listing.{shown};
 ghost use Rattle.first_fault.specs.FirstFault.{first_with};
 
 use crate::counts::Counts;

@@ -1,1 +1,4 @@
-pub mod Shown
+pub mod Things
+pub mod Readings
+pub mod Gathering
+pub mod Listing

@@ -1,2 +1,17 @@
-//! Sites.
+//! The functions of a module with what each captures, without walking a group's text again and again.
+//!
+//! In `let <X> = 1 in letrec 'f'/0 = fun () -> X in fun () -> apply 'f'/0()` the last fun uses `'f'/0` alone, once; and
+//! since X is what `'f'/0` captures, the fun captures X, at the place of `'f'/0`.
+//!
+//! Sound, since a function's name stands for what its group captures, wherever it stands: the uses of a text, each
+//! function standing for itself, become the captures when each function's own captures are put in its stead.
 #![tactic(auto)]
+
+mod bind;
+mod gather;
+mod laws;
+mod listing;
+mod used;
+
+pub use laws::{captures_are_expanded, group_captures_are_expanded};
+pub use listing::sites;

@@ -1,0 +1,8 @@
+pub mod Alike
+pub mod Stands
+pub mod Captured
+pub mod Puts
+pub mod Groups
+pub mod Gathers
+pub mod Lists
+pub mod Outside
