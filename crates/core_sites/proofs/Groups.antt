@@ -117,8 +117,10 @@ module _ (n m : ℕ) (us : List Use) where
       let j = named_longer ds (function f 0 [] ∷ g) in
       group_reads ds (k + suc (sites_in (body_of x))) (function f 0 [] ∷ g) (function f k us ∷ h)
       (reads_function m (stead n m us) f k 0 us (use_at [] (length g) (record { line = 0; column = 0 }) ∷ []) w
-      (λ q. record { alike = equal _ _ (sym (append-nil (placed q us))
-      ∙ sym (ap (λ o. instead o (use_at [] (length g) q) ++ []) (stead_at n m (length g) us i (omega (arith, j, e))))) }))
+      (λ q. record {
+        alike = equal _ _ (sym (append-nil (placed q us))
+            ∙ sym (ap (λ o. instead o (use_at [] (length g) q) ++ []) (stead_at n m (length g) us i (omega (arith, j, e)))));
+      }))
       (omega (arith, i)) e
 
 group_fits : {l : ℕ} (ds : Defs) (g : Scope) (us : List Use) → Ready l g
@@ -141,15 +143,15 @@ below_stead n m (u ∷ us) =
     below_append n (instead (stead n m [] u.number) u) (expanded (stead n m []) us)
     ∙ elim (cases_lt u.number n) [
       | inl k ↦
-        ap (λ o. below n (instead o u) ++ below n (expanded (stead n m []) us)) (stead_below n m u.number [] k)
-        ∙ ap (λ b. (if b then u ∷ [] else []) ++ below n (expanded (stead n m []) us)) (lt-ltb u.number n k)
-        ∙ ap (λ ts. u ∷ ts) rest
-        ∙ sym (ap (λ b. if b then u ∷ below n us else below n us) (lt-ltb u.number n k))
+          ap (λ o. below n (instead o u) ++ below n (expanded (stead n m []) us)) (stead_below n m u.number [] k)
+          ∙ ap (λ b. (if b then u ∷ [] else []) ++ below n (expanded (stead n m []) us)) (lt-ltb u.number n k)
+          ∙ ap (λ ts. u ∷ ts) rest
+          ∙ sym (ap (λ b. if b then u ∷ below n us else below n us) (lt-ltb u.number n k))
       | inr k ↦
-        ap (λ ts. ts ++ below n (expanded (stead n m []) us))
-        (quiet_instead (stead n m [] u.number) n u k
-        (λ vs e. sym (stead_same (ltb u.number n) (ltb u.number m) [] vs e)))
-        ∙ rest ∙ sym (ap (λ b. if b then u ∷ below n us else below n us) (le-ltb u.number n k))
+          ap (λ ts. ts ++ below n (expanded (stead n m []) us))
+          (quiet_instead (stead n m [] u.number) n u k
+          (λ vs e. sym (stead_same (ltb u.number n) (ltb u.number m) [] vs e)))
+          ∙ rest ∙ sym (ap (λ b. if b then u ∷ below n us else below n us) (le-ltb u.number n k))
     ]
 
 same_if : (b : Bool) (q r : ℕ → Option (List Use)) (u : Use) (us vs : List Use)
@@ -205,10 +207,10 @@ letrec_gathered {l} p ds b g us w put behind =
     let vs = gathered_defs ds (named ds g) (length (named ds g)) [] in
     let zs = once_below (length (named ds g)) [] (xs ++ ys) in
     let own : put_all n [] vs ≡ cs =
-        ap (λ ts. put_all n [] ts) (put [] ∙ put_once m [] xs) ∙ put_once n [] (once_below m [] xs)
-        ∙ once_twice n m [] xs (named_longer ds g) in
+    ap (λ ts. put_all n [] ts) (put [] ∙ put_once m [] xs) ∙ put_once n [] (once_below m [] xs)
+    ∙ once_twice n m [] xs (named_longer ds g) in
     let inner : gathered b h m vs ≡ zs =
-        behind vs ∙ ap (λ ts. put_all m ts ys) (put []) ∙ sym (put_all_append m [] xs ys) ∙ put_once m [] (xs ++ ys) in
+    behind vs ∙ ap (λ ts. put_all m ts ys) (put []) ∙ sym (put_all_append m [] xs ys) ∙ put_once m [] (xs ++ ys) in
     let low = low_stead n m cs (named_longer ds g) (below_once n [] xs) in
     let fit = group_fits ds g cs w in
     let whole = two m (stead n m cs) (stands_defs m (stead n m cs) low ds fit) (stands m (stead n m cs) low b fit) in

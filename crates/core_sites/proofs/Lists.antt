@@ -94,12 +94,12 @@ held_function g st f k us i e h = elim (cases_lt i (length g)) [
   | inl l ↦ held_front st (Some us ∷ []) i (omega (arith, e, l)) ∙ h ∙ sym (at_more g f k us i l)
   | inr l ↦ elim (cases_lt (length g) i) [
     | inl m ↦
-      held_past (st ++ Some us ∷ []) i (let j = length-append st (Some us ∷ []) in omega (arith, j, e, m))
-      ∙ sym (at_outer (function f k us ∷ g) i (omega (arith, m)))
+        held_past (st ++ Some us ∷ []) i (let j = length-append st (Some us ∷ []) in omega (arith, j, e, m))
+        ∙ sym (at_outer (function f k us ∷ g) i (omega (arith, m)))
     | inr m ↦
-      let same : i ≡ length g = omega (arith, l, m) in
-      ap (λ j. held_at (st ++ Some us ∷ []) j) (same ∙ sym e) ∙ held_last st (Some us)
-      ∙ sym (ap (λ b. if b then Some us else captures_at g i) (eq-eqb i (length g) same))
+        let same : i ≡ length g = omega (arith, l, m) in
+        ap (λ j. held_at (st ++ Some us ∷ []) j) (same ∙ sym e) ∙ held_last st (Some us)
+        ∙ sym (ap (λ b. if b then Some us else captures_at g i) (eq-eqb i (length g) same))
   ]
 ]
 
@@ -136,7 +136,7 @@ level_module (and_def (def p f x) ds) k w = level_module ds (suc k) (level_funct
 level_padded : {n g : Scope} {st : Held} → Tied n st g → Level n (padded (length n) st) g
 level_padded {n} {g} {st} w =
     let size = length-append st (replicate (length n - length st) None)
-        ∙ ap (λ k. length st + k) (length-replicate (length n - length st) None) in
+    ∙ ap (λ k. length st + k) (length-replicate (length n - length st) None) in
     let short = w.short in
     record {
       tied = record {

@@ -11,8 +11,8 @@ ghost use Rattle.core_sites.specs.Gathering.{put_all, thing, named, group_at, gr
 use crate::bind::{bind_defs, bind_pattern, bind_patterns, bind_vars, leave_to};
 use crate::used::{Used, Uses};
 use core_form::{
-    Binder, Clause, Def, Expr, ExprForm, KeyPattern, MapPart, Pattern, PatternForm,
-    SegPattern, Segment,
+    Binder, Clause, Def, Expr, ExprForm, KeyPattern, MapPart, Pattern, PatternForm, SegPattern,
+    Segment,
 };
 use core_names::Names;
 use erl_base::{Boxed, FunKey, Name, NoMemory, Place};
@@ -190,7 +190,14 @@ fn gather_rest(
     let captured = uses_below(alloc, outside, inner.as_slice())?;
     gather_boxed(body, names, within, &mut inner, alloc)?;
     leave_to(outside, names);
-    put_expanded(alloc, inner.as_slice(), outside, captured.as_slice(), limit, uses)
+    put_expanded(
+        alloc,
+        inner.as_slice(),
+        outside,
+        captured.as_slice(),
+        limit,
+        uses,
+    )
 }
 
 fn uses_below(alloc: Global, limit: u64, items: &[Used]) -> Result<Uses, NoMemory>

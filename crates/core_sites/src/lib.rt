@@ -14,4 +14,4 @@ mod listing;
 mod used;
 
 pub use laws::{captures_are_expanded, group_captures_are_expanded};
-pub use listing::sites;
+pub use listing::{capture_counts, sites};

@@ -196,9 +196,7 @@ fn put_held(
     match held.get(item.number() as usize) {
         None => uses.put(limit, item.copy(alloc)?),
         Some(None) => uses.put(limit, item.copy(alloc)?),
-        Some(Some(captures)) => {
-            put_moved(alloc, captures.as_slice(), item.place(), limit, uses)
-        }
+        Some(Some(captures)) => { put_moved(alloc, captures.as_slice(), item.place(), limit, uses) }
     }
 }
 
@@ -369,7 +367,14 @@ fn list_fun(
     let outside = names.len();
     bind_vars(params.as_slice(), names)?;
     let captures = fun_captures(alloc, body.get(), names, outside, held.as_slice())?;
-    put_site(alloc, place, None, params.as_slice(), captures.as_slice(), out)?;
+    put_site(
+        alloc,
+        place,
+        None,
+        params.as_slice(),
+        captures.as_slice(),
+        out,
+    )?;
     list_boxed(body, names, held, out, alloc)?;
     names.leave(outside);
     Ok(())

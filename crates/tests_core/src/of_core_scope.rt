@@ -1,4 +1,4 @@
-// Of core_scope: a lawful module passes, and the first fault of another one is told.
+// Of core_scope: the first fault of a module is told.
 use core_form::build::{exprs, lists, nodes};
 use core_form::{Binder, Binders, Defs, Module};
 use core_scope::check_scope;
@@ -43,13 +43,6 @@ fn module(alloc: Global, answer: &str) -> Result<Module, NoMemory> {
         wide: None,
         long: None,
     })
-}
-
-#[test]
-fn a_lawful_module_passes(rt: HostRuntime) -> Result<(), Fail> {
-    let alloc = rt.alloc();
-    assert_eq!(rt; check_scope(alloc, &module(alloc, "X")?), Ok(()));
-    Ok(())
 }
 
 #[test]

@@ -9,8 +9,8 @@ use Rattle.core_sites.proofs.bind.+bind.Goals as goal
 pub bind_pattern-returns-in_ok-bind_patterns-in-List : goal.bind_pattern-returns-in_ok-bind_patterns-in-List
 bind_pattern-returns-in_ok-bind_patterns-in-List n c =
     let split : bound (pattern_view c.args.pattern.now)
-        ≡ bound_all (patterns (map pattern_view c.as_slice.result.now)) ++ bound (pattern_view c.in-List.tail)
-        = search (rules, the_lemmas) in
+    ≡ bound_all (patterns (map pattern_view c.as_slice.result.now)) ++ bound (pattern_view c.in-List.tail)
+    = search (rules, the_lemmas) in
     record {
       ok = subst (λ g. OnOk c.bind_boxed-in-List.result (c.bind_boxed-in-List.new.names ≡ g))
           (ap (λ g. with_names g (bound (pattern_view c.in-List.tail))) c.in_ok-bind_patterns-in-List.ensures.ok

@@ -63,12 +63,12 @@ gather_expr-returns-in_ok-inner-in-Letrec-clause-names n c =
 pub gather_segs-loop-item-preserved : goal.gather_segs-loop-item-preserved
 gather_segs-loop-item-preserved n c =
     let one : gathered_segs (segs (map seg_view (drop (c.loop-item.item-index + 1) c.args.items.now)))
-        (with_names c.loop-item.names (bound (pattern_view c.item-item.result.value))) c.args.limit
-        (gathered_segs (segs (seg_view c.item-item.result ∷ [])) c.loop-item.names c.args.limit c.loop-item.uses)
-        ≡ gathered_segs
-        (segs (map seg_view (c.item-item.result ∷ drop (c.loop-item.item-index + 1) c.args.items.now)))
-        c.loop-item.names c.args.limit c.loop-item.uses
-        = search (rules, the_lemmas) in
+    (with_names c.loop-item.names (bound (pattern_view c.item-item.result.value))) c.args.limit
+    (gathered_segs (segs (seg_view c.item-item.result ∷ [])) c.loop-item.names c.args.limit c.loop-item.uses)
+    ≡ gathered_segs
+    (segs (map seg_view (c.item-item.result ∷ drop (c.loop-item.item-index + 1) c.args.items.now)))
+    c.loop-item.names c.args.limit c.loop-item.uses
+    = search (rules, the_lemmas) in
     record {
       names =
           acted with_names with_names_append (λ xs. bound_segs (segs (map seg_view xs))) c.loop-item.names

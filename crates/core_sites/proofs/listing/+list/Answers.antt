@@ -78,8 +78,8 @@ list_group-returns-clause-behind n c =
 pub list_inside-returns-clause-sites : goal.list_inside-returns-clause-sites
 list_inside-returns-clause-sites n c =
     let split : def_view c.args.def.now
-        ≡ Plain.def c.args.def.now.place c.args.def.now.key (view c.args.def.now.fun)
-        = search (rules, the_lemmas) in
+    ≡ Plain.def c.args.def.now.place c.args.def.now.key (view c.args.def.now.fun)
+    = search (rules, the_lemmas) in
     subst (λ t. OnOk c.list_right.result (c.list_right.new.out ≡ t))
     (sym (ap (λ d. listed_inside d c.args.names.now c.args.held.now c.args.out.now) split
     ∙ inside_right c.args.def.now.place c.args.def.now.key (view c.args.def.now.fun) c.args.names.now c.args.held.now

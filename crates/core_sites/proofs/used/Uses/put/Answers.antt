@@ -10,15 +10,15 @@ pub returns-then-number-limit : goal.returns-then-number-limit
 returns-then-number-limit c = record {
   ok = elim c.then-number-limit.branch [
     | then-number-limit-via-then-number-limit w ↦
-      let h = w.if-number-limit.true in
-      let e = c.number-number.ensures in
-      put_high c.args.limit c.args.self.now c.args.used (omega (arith, h, e))
+        let h = w.if-number-limit.true in
+        let e = c.number-number.ensures in
+        put_high c.args.limit c.args.self.now c.args.used (omega (arith, h, e))
     | then-number-limit-via-else-number-limit+then-contains w ↦
-      put_seen c.args.limit c.args.self.now c.args.used
-      (sym (w.contains.ensures ∙ any_among c.number-number.result c.self.inside.numbers.keys
-      ∙ ap (λ ks. among c.number-number.result ks) (c.self.invariant ∙ ap numbers_of c.self.view_is)
-      ∙ ap (λ n. among n (numbers_of c.args.self.now)) c.number-number.ensures)
-      ∙ w.if-contains.true)
+        put_seen c.args.limit c.args.self.now c.args.used
+        (sym (w.contains.ensures ∙ any_among c.number-number.result c.self.inside.numbers.keys
+        ∙ ap (λ ks. among c.number-number.result ks) (c.self.invariant ∙ ap numbers_of c.self.view_is)
+        ∙ ap (λ n. among n (numbers_of c.args.self.now)) c.number-number.ensures)
+        ∙ w.if-contains.true)
   ];
 }
 
