@@ -1,2 +1,3 @@
 mod SameKeys
 mod Rows
+mod Spelling

@@ -10,8 +10,12 @@
 //! Contracts see the table as a scope of core_form, the innermost binding first. What a function captures is not kept:
 //! in this scope it captures nothing. Looking up takes no memory and the expected time of one look-up of a hash map;
 //! leaving takes the time of what is left behind.
+//!
+//! Beside it stand what walks through a module ask of names: whether one is a word, and which atom a literal is.
 #![tactic(auto)]
 
 mod table;
+mod words;
 
 pub use table::{Known, Names};
+pub use words::{atom_of, is_word, literal_name};

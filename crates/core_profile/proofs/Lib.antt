@@ -1,5 +1,4 @@
 mod Flags
-mod Texts
 mod TermForms
 mod Lengths
 mod Kept

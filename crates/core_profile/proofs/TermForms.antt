@@ -12,7 +12,7 @@ use Rattle.erl_term.specs.View.{view, view_step, pair_step}
 use Rattle.core_form.specs.Core.{literal}
 use Rattle.core_form.specs.SourceTree.{is_flag}
 use Rattle.core_form.specs.Walks.{literal_name}
-use Rattle.core_profile.specs.Readings.{atom_name}
+use Rattle.core_names.specs.Readings.{atom_in}
 use Rattle.core_profile.specs.ProfileFaults.{is_segment_flag, is_flag_list, is_proper_list, is_native, has_native, is_unit}
 use Rattle.core_profile.proofs.Flags.{flags_of_list, end_of_list, native_in_list}
 
@@ -23,11 +23,6 @@ view-list items tail = ap view (sym (V.rolls-List items tail))
 listed : (t : Term) (items : List Term) (tail : Term) → t ≡ V.List items tail
     → view t ≡ list_of (map view items) (view tail)
 listed t items tail e = ap view e ∙ view-list items tail
-
-pub name_of_list : (t : Term) (items : List Term) (tail : Term) → t ≡ V.List items tail → (items ≡ [] → ⊥)
-    → atom_name (view t) ≡ []
-name_of_list t [] tail e h = absurd (h refl)
-name_of_list t (x ∷ xs) tail e h = ap atom_name (listed t (x ∷ xs) tail e)
 
 pub unit_of_list : (t : Term) (items : List Term) (tail : Term) → t ≡ V.List items tail → (items ≡ [] → ⊥)
     → is_unit (view t) ≡ false
@@ -47,16 +42,12 @@ pub native_in : (t : Term) (items : List Term) (tail : Term) → t ≡ V.List it
 native_in t items tail e = ap has_native (listed t items tail e) ∙ native_in_list (map view items) (view tail)
 
 -- flags by their names
-pub flag_named : (t : Plain.Term) → is_flag t ≡ (same_name (atom_name t) (codes "signed")
-    || same_name (atom_name t) (codes "unsigned") || same_name (atom_name t) (codes "big")
-    || same_name (atom_name t) (codes "little"))
+pub flag_named : (t : Plain.Term) → is_flag t ≡ (same_name (atom_in t) (codes "signed")
+    || same_name (atom_in t) (codes "unsigned") || same_name (atom_in t) (codes "big")
+    || same_name (atom_in t) (codes "little"))
 flag_named (Plain.atom a) = refl
 flag_named t = refl
 
-pub native_named : (t : Plain.Term) → is_native t ≡ same_name (atom_name t) (codes "native")
+pub native_named : (t : Plain.Term) → is_native t ≡ same_name (atom_in t) (codes "native")
 native_named (Plain.atom a) = refl
 native_named t = refl
-
-pub literal_named : (p : Place) (t : Plain.Term) → literal_name (literal p t) ≡ atom_name t
-literal_named p (Plain.atom a) = refl
-literal_named p t = refl

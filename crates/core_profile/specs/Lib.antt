@@ -3,5 +3,4 @@ pub mod ProfileWalk
 pub mod LimitFaults
 pub mod LimitWalk
 pub mod Counted
-pub mod Readings
 pub mod LawfulText

@@ -16,7 +16,6 @@ mod limits;
 mod profile;
 mod progress;
 mod segments;
-mod words;
 
 pub use laws::a_lawful_text_has_one_module;
 pub use limits::{check_limits, check_limits_by};

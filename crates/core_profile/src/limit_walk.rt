@@ -2,7 +2,7 @@
 ghost use Rattle.std.specs.Prelude.{◌≡◌, ◌≤◌, ◌+◌, ◌∷◌, [], map};
 ghost use Rattle.core_form.specs.View.{view, part_view, segment_view, def_view, clause_view, pattern_view, exprs, parts, segments, defs, clauses, patterns, keys, segs};
 ghost use Rattle.core_form.specs.Walks.{expr_count};
-ghost use Rattle.core_profile.specs.Readings.{key_view, seg_view};
+ghost use Rattle.core_names.specs.Readings.{key_view, seg_view};
 ghost use Rattle.core_profile.specs.Counted.{counted};
 ghost use Rattle.core_profile.specs.LimitFaults.{over_arity};
 ghost use Rattle.core_profile.specs.LimitWalk.{walk, walk_exprs, walk_parts, walk_segments, walk_def, walk_defs, walk_clauses, walk_pattern, walk_patterns, walk_keys, walk_segs, function_if, function_unless, with_nodes, meeting};

@@ -4,16 +4,17 @@ ghost use Rattle.core_form.specs.Core.{primop, call};
 ghost use Rattle.core_form.specs.View.{view, part_view, segment_view, def_view, clause_view, pattern_view, module_view, exprs, parts, segments, defs, clauses, patterns, keys, segs};
 ghost use Rattle.core_profile.specs.ProfileWalk.{met_in, met_in_exprs, met_in_parts, met_in_segments, met_in_defs, met_in_clauses, met_in_pattern, met_in_patterns, met_in_keys, met_in_segs};
 ghost use Rattle.core_scope.specs.ScopeFaults.{is_float_function};
-ghost use Rattle.core_profile.specs.Readings.{key_view, seg_view};
+ghost use Rattle.core_names.specs.Readings.{key_view, seg_view};
 ghost use Rattle.core_profile.specs.ProfileFaults.{is_primop, expr_outside, float_fault, profile_faults, IsFirstProfileFault};
 ghost use Rattle.first_fault.specs.FirstFault.{first_with};
 
 use crate::segments::keep_segment;
-use crate::words::{is_same, literal_name};
 use core_form::{
     Clause, Def, Expr, ExprForm, KeyPattern, MapPart, Module, Pattern, PatternForm, SegPattern,
     Segment,
 };
+use core_names::{is_word, literal_name};
+use core_scope::gives_float;
 use erl_base::{Boxed, Kind, Name, Outside, Place, Refusal};
 use first_fault::{answer, keep_if};
 
@@ -21,9 +22,9 @@ fn is_primop(name: &Name, count: usize) -> bool
     ensures { result ≡ is_primop name.now count }
 {
     let name = name.as_str();
-    let fails = is_same(name, "match_fail");
-    let raises = is_same(name, "raise");
-    let builds = is_same(name, "build_stacktrace");
+    let fails = is_word(name, "match_fail");
+    let raises = is_word(name, "raise");
+    let builds = is_word(name, "build_stacktrace");
     fails & (count == 1) | raises & (count == 2) | builds & (count == 1)
 }
 
@@ -39,14 +40,6 @@ fn keep_primop(
     keep_if(first, holds, place, Kind::Profile(Outside::Primop))
 }
 
-fn is_float_function(name: &str, count: usize) -> bool
-    ensures { result ≡ is_float_function (chars name.now) count }
-{
-    let divides = is_same(name, "/");
-    let makes = is_same(name, "float");
-    divides & (count == 2) | makes & (count == 1)
-}
-
 fn keep_call(
     first: Option<Refusal>,
     place: Place,
@@ -57,8 +50,8 @@ fn keep_call(
     ensures { result ≡ first_with first
         (expr_outside (call place (view home.now) (view function.now) (exprs (map view arguments.now)))) }
 {
-    let erlang = is_same(literal_name(home.get()), "erlang");
-    let float = is_float_function(literal_name(function.get()), arguments.len());
+    let erlang = is_word(literal_name(home.get()), "erlang");
+    let float = gives_float(literal_name(function.get()), arguments.len());
     keep_if(
         first,
         erlang & float,

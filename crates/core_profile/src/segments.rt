@@ -8,8 +8,8 @@ ghost use Rattle.core_form.specs.SourceTree.{is_flag};
 ghost use Rattle.core_profile.specs.ProfileFaults.{is_native, is_segment_flag, is_flag_list, is_proper_list, has_native, is_unit, is_segment_form, type_outside, native_outside, segment_outside};
 ghost use Rattle.first_fault.specs.FirstFault.{first_with};
 
-use crate::words::{atom_name, is_same, literal_name};
 use core_form::Expr;
+use core_names::{atom_of, is_word, literal_name};
 use erl_base::{Kind, Name, Outside, Place, Refusal};
 use erl_term::Term;
 use first_fault::keep_if;
@@ -17,18 +17,18 @@ use first_fault::keep_if;
 fn is_flag(term: &Term) -> bool
     ensures { result ≡ is_flag (Terms.view term.now) }
 {
-    let name = atom_name(term);
-    let signed = is_same(name, "signed");
-    let unsigned = is_same(name, "unsigned");
-    let big = is_same(name, "big");
-    let little = is_same(name, "little");
+    let name = atom_of(term);
+    let signed = is_word(name, "signed");
+    let unsigned = is_word(name, "unsigned");
+    let big = is_word(name, "big");
+    let little = is_word(name, "little");
     signed | unsigned | big | little
 }
 
 fn is_native(term: &Term) -> bool
     ensures { result ≡ is_native (Terms.view term.now) }
 {
-    is_same(atom_name(term), "native")
+    is_word(atom_of(term), "native")
 }
 
 fn is_segment_flag(term: &Term) -> bool
@@ -156,8 +156,8 @@ fn is_unit_size(number: i128) -> bool
 fn is_segment_form(size: &Expr, unit: &Term, kind: &Name, flags: &Term) -> bool
     ensures { result ≡ is_segment_form (view size.now) (Terms.view unit.now) kind.now (Terms.view flags.now) }
 {
-    let integer = is_same(kind.as_str(), "integer");
-    let all = is_same(literal_name(size), "all");
+    let integer = is_word(kind.as_str(), "integer");
+    let all = is_word(literal_name(size), "all");
     is_unit(unit) & is_flag_list(flags) & !(integer & all)
 }
 
@@ -165,8 +165,8 @@ fn keep_type(first: Option<Refusal>, place: Place, kind: &Name) -> Option<Refusa
     ensures { result ≡ first_with first (type_outside place kind.now) }
 {
     let name = kind.as_str();
-    let integer = is_same(name, "integer");
-    let binary = is_same(name, "binary");
+    let integer = is_word(name, "integer");
+    let binary = is_word(name, "binary");
     keep_if(
         first,
         !(integer | binary),

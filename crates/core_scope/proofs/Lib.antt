@@ -1,5 +1,4 @@
 mod Degree
-mod Spelling
 mod Counted
 mod Weights
 mod Likeness

@@ -1,4 +1,3 @@
 pub mod Degrees
 pub mod ScopeFaults
 pub mod ScopeWalk
-pub mod Readings

@@ -21,3 +21,4 @@ mod words;
 
 pub use check::check_scope;
 pub use laws::{its_own_degree_is_wanted, what_never_returns_has_every_degree};
+pub use words::gives_float;

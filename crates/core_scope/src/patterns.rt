@@ -1,7 +1,7 @@
 // The patterns of a clause: what they look up, and what they bind.
 ghost use Rattle.std.specs.Prelude.{◌≡◌, ◌∷◌, [], length, map, Some, IfOk, OnOk};
 ghost use Rattle.core_form.specs.View.{view, pattern_view, patterns, keys, segs};
-ghost use Rattle.core_scope.specs.Readings.{plain_key, plain_seg};
+ghost use Rattle.core_names.specs.Readings.{key_view, seg_view};
 ghost use Rattle.core_scope.specs.ScopeFaults.{simple_use};
 ghost use Rattle.core_scope.specs.ScopeWalk.{pattern_scope, patterns_scope, keys_scope, segs_scope, pattern_met, patterns_met, keys_met, segs_met, pattern_uses_met, patterns_uses_met, keys_uses_met, segs_uses_met};
 ghost use Rattle.first_fault.specs.FirstFault.{first_with};
@@ -77,8 +77,8 @@ fn bind_key(
     base: u64,
     first: Option<Refusal>,
 ) -> Result<Option<Refusal>, NoMemory>
-    ensures first { IfOk result (λ found. found ≡ keys_met (keys (plain_key key.now ∷ [])) base names.old first) }
-    ensures names { OnOk result (names.new ≡ keys_scope (keys (plain_key key.now ∷ [])) names.old) }
+    ensures first { IfOk result (λ found. found ≡ keys_met (keys (key_view key.now ∷ [])) base names.old first) }
+    ensures names { OnOk result (names.new ≡ keys_scope (keys (key_view key.now ∷ [])) names.old) }
 {
     bind_pattern(&key.pattern, names, base, first)
 }
@@ -90,8 +90,8 @@ fn bind_keys(
     base: u64,
     first: Option<Refusal>,
 ) -> Result<Option<Refusal>, NoMemory>
-    ensures first { IfOk result (λ found. found ≡ keys_met (keys (map plain_key items.now)) base names.old first) }
-    ensures names { OnOk result (names.new ≡ keys_scope (keys (map plain_key items.now)) names.old) }
+    ensures first { IfOk result (λ found. found ≡ keys_met (keys (map key_view items.now)) base names.old first) }
+    ensures names { OnOk result (names.new ≡ keys_scope (keys (map key_view items.now)) names.old) }
 {
     let mut first = first;
     for item in items {
@@ -107,8 +107,8 @@ fn bind_seg(
     base: u64,
     first: Option<Refusal>,
 ) -> Result<Option<Refusal>, NoMemory>
-    ensures first { IfOk result (λ found. found ≡ segs_met (segs (plain_seg segment.now ∷ [])) base names.old first) }
-    ensures names { OnOk result (names.new ≡ segs_scope (segs (plain_seg segment.now ∷ [])) names.old) }
+    ensures first { IfOk result (λ found. found ≡ segs_met (segs (seg_view segment.now ∷ [])) base names.old first) }
+    ensures names { OnOk result (names.new ≡ segs_scope (segs (seg_view segment.now ∷ [])) names.old) }
 {
     bind_pattern(&segment.value, names, base, first)
 }
@@ -120,8 +120,8 @@ fn bind_segs(
     base: u64,
     first: Option<Refusal>,
 ) -> Result<Option<Refusal>, NoMemory>
-    ensures first { IfOk result (λ found. found ≡ segs_met (segs (map plain_seg items.now)) base names.old first) }
-    ensures names { OnOk result (names.new ≡ segs_scope (segs (map plain_seg items.now)) names.old) }
+    ensures first { IfOk result (λ found. found ≡ segs_met (segs (map seg_view items.now)) base names.old first) }
+    ensures names { OnOk result (names.new ≡ segs_scope (segs (map seg_view items.now)) names.old) }
 {
     let mut first = first;
     for item in items {
@@ -199,7 +199,7 @@ fn look_in_key(
     names: &mut Names,
     first: Option<Refusal>,
 ) -> Result<Option<Refusal>, NoMemory>
-    ensures first { IfOk result (λ found. found ≡ keys_uses_met (keys (plain_key key.now ∷ [])) names.old first) }
+    ensures first { IfOk result (λ found. found ≡ keys_uses_met (keys (key_view key.now ∷ [])) names.old first) }
     ensures names { OnOk result (names.new ≡ names.old) }
 {
     let first = keep_simple(names, &key.key, first);
@@ -212,7 +212,7 @@ fn look_in_keys(
     names: &mut Names,
     first: Option<Refusal>,
 ) -> Result<Option<Refusal>, NoMemory>
-    ensures first { IfOk result (λ found. found ≡ keys_uses_met (keys (map plain_key items.now)) names.old first) }
+    ensures first { IfOk result (λ found. found ≡ keys_uses_met (keys (map key_view items.now)) names.old first) }
     ensures names { OnOk result (names.new ≡ names.old) }
 {
     let mut first = first;
@@ -228,8 +228,8 @@ fn look_in_seg(
     names: &mut Names,
     first: Option<Refusal>,
 ) -> Result<Option<Refusal>, NoMemory>
-    ensures first { IfOk result (λ found. found ≡ segs_uses_met (segs (plain_seg segment.now ∷ [])) names.old first) }
-    ensures names { OnOk result (names.new ≡ segs_scope (segs (plain_seg segment.now ∷ [])) names.old) }
+    ensures first { IfOk result (λ found. found ≡ segs_uses_met (segs (seg_view segment.now ∷ [])) names.old first) }
+    ensures names { OnOk result (names.new ≡ segs_scope (segs (seg_view segment.now ∷ [])) names.old) }
 {
     let first = keep_simple(names, &segment.size, first);
     let base = names.len();
@@ -242,8 +242,8 @@ fn look_in_segs(
     names: &mut Names,
     first: Option<Refusal>,
 ) -> Result<Option<Refusal>, NoMemory>
-    ensures first { IfOk result (λ found. found ≡ segs_uses_met (segs (map plain_seg items.now)) names.old first) }
-    ensures names { OnOk result (names.new ≡ segs_scope (segs (map plain_seg items.now)) names.old) }
+    ensures first { IfOk result (λ found. found ≡ segs_uses_met (segs (map seg_view items.now)) names.old first) }
+    ensures names { OnOk result (names.new ≡ segs_scope (segs (map seg_view items.now)) names.old) }
 {
     let mut first = first;
     for item in items {
@@ -258,7 +258,7 @@ fn look_in_binary(
     names: &mut Names,
     first: Option<Refusal>,
 ) -> Result<Option<Refusal>, NoMemory>
-    ensures first { IfOk result (λ found. found ≡ segs_uses_met (segs (map plain_seg items.now)) names.old first) }
+    ensures first { IfOk result (λ found. found ≡ segs_uses_met (segs (map seg_view items.now)) names.old first) }
     ensures names { OnOk result (names.new ≡ names.old) }
 {
     let base = names.len();

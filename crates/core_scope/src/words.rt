@@ -1,21 +1,18 @@
 // Names that have a meaning of their own, and what a call says by its literals.
-ghost use Rattle.std.specs.Prelude.{◌≡◌, ◌≤◌, ◌&&◌, map, chars, codes, IsTrue, IfOk, nat_lt};
-ghost use Rattle.std.specs.List.{list_all};
+ghost use Rattle.std.specs.Prelude.{◌≡◌, ◌≤◌, ◌&&◌, map, chars, codes, IfOk};
 ghost use Rattle.std.specs.Option.{option_map};
 ghost use Rattle.erl_base.specs.Names.{same_name};
-ghost use Rattle.erl_term.specs.View as Terms;
 ghost use Rattle.bif_table.specs.Builtins.{lookup, never_returns};
 ghost use Rattle.bif_table.specs.View.{bif_view};
 ghost use Rattle.core_form.specs.Walks.{literal_name, expr_count};
 ghost use Rattle.core_form.specs.View.{view, exprs};
-ghost use Rattle.core_scope.specs.Readings.{atom_in};
 ghost use Rattle.core_scope.specs.Degrees.{one_unless, is_raising_primop};
 ghost use Rattle.core_scope.specs.ScopeFaults.{is_float_function, is_guard_function};
 
 use bif_table::{Bif, is_guard, lookup};
-use core_form::{Expr, ExprForm, Exprs};
+use core_form::{Expr, Exprs};
+use core_names::{is_word, literal_name};
 use erl_base::{Boxed, FunKey, Name, NoMemory};
-use erl_term::Term;
 use std::alloc::Global;
 
 /// What a call says by its literals: whether it never returns, and whether a guard may have it.
@@ -25,53 +22,8 @@ pub struct Called {
     pub in_guards: bool,
 }
 
-/// Whether a name is a word of ASCII.
-fn is_word(name: &str, word: &str) -> bool
-    requires ascii { IsTrue (list_all (λ c. nat_lt c 128) word.now) }
-    ensures { result ≡ same_name (chars name.now) word.now }
-{
-    name == word
-}
-
-/// The atom that a literal is, and the empty name where it is none.
-#[tactic(auto, using(crate::proofs::Spelling::nothing_spelled, crate::proofs::Spelling::literal_spelled))]
-fn atom_of_literal(expr: &Expr) -> &str
-    ensures { chars result.now ≡ literal_name (view expr.now) }
-{
-    if let ExprForm::Literal(term) = &expr.form {
-        return atom_of(term);
-    }
-    ""
-}
-
-/// The atom that a term is. A list without items is its tail.
-fn atom_of(term: &Term) -> &str
-    ensures { chars result.now ≡ atom_in (Terms.view term.now) }
-{
-    match term {
-        Term::Atom(name) => name.as_str(),
-        Term::List(items, tail) => {
-            if items.is_empty() {
-                atom_of(tail.get())
-            } else {
-                ""
-            }
-        }
-        Term::Int(_)
-        | Term::Nil
-        | Term::Tuple(_)
-        | Term::Map(_)
-        | Term::Bits(_)
-        | Term::Fun(..)
-        | Term::Extern(..)
-        | Term::Pid(_)
-        | Term::Reference(_)
-        | Term::Port(_)
-        | Term::RawTrace(_) => "",
-    }
-}
-
-fn gives_float(name: &str, count: usize) -> bool
+/// Whether a function of the module erlang gives a float.
+pub fn gives_float(name: &str, count: usize) -> bool
     ensures { result ≡ is_float_function (chars name.now) count }
 {
     let divides = is_word(name, "/");
@@ -122,13 +74,13 @@ fn callee_of(alloc: Global, home: &Expr, function: &Expr, count: usize) -> Resul
         ≡ (same_name (literal_name (view home.now)) (codes "erlang")
         && is_guard_function (literal_name (view function.now)) count)) }
 {
-    if !is_word(atom_of_literal(home), "erlang") {
+    if !is_word(literal_name(home), "erlang") {
         return Ok(Called {
             never_returns: false,
             in_guards: false,
         });
     }
-    erlang_callee(alloc, atom_of_literal(function), count)
+    erlang_callee(alloc, literal_name(function), count)
 }
 
 /// A call of this function of this module, with these arguments.

@@ -1,4 +1,3 @@
 pub mod Things
-pub mod Readings
 pub mod Gathering
 pub mod Listing

@@ -2,7 +2,7 @@
 ghost use Rattle.std.specs.Prelude.{◌≡◌, ◌-◌, map, length, drop, OnOk};
 ghost use Rattle.core_form.specs.Scope.{with_names, names_of, bound, bound_all, bound_keys, bound_segs};
 ghost use Rattle.core_form.specs.View.{def_view, pattern_view, defs, patterns, keys, segs};
-ghost use Rattle.core_sites.specs.Readings.{key_view, seg_view};
+ghost use Rattle.core_names.specs.Readings.{key_view, seg_view};
 ghost use Rattle.core_sites.specs.Gathering.{named};
 
 use core_form::{Binder, Def, KeyPattern, Pattern, PatternForm, SegPattern};

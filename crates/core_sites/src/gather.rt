@@ -4,7 +4,7 @@ ghost use Rattle.core_form.specs.Scope.{binding, with_names, names_of, bound, bo
 ghost use Rattle.core_form.specs.Captures.{found, placed};
 ghost use Rattle.core_form.specs.View.{view, part_view, segment_view, def_view, clause_view, pattern_view, exprs, parts, segments, defs, clauses, patterns, keys, segs};
 ghost use Rattle.core_names.specs.Table.{function_known};
-ghost use Rattle.core_sites.specs.Readings.{key_view, seg_view};
+ghost use Rattle.core_names.specs.Readings.{key_view, seg_view};
 ghost use Rattle.core_sites.specs.Things.{instead, expanded};
 ghost use Rattle.core_sites.specs.Gathering.{put_all, thing, named, group_at, group_gathered, rest_gathered, IsInside, gathered, gathered_all, gathered_parts, gathered_segments, gathered_defs, gathered_clauses, gathered_pattern, gathered_patterns, gathered_keys, gathered_segs};
 

@@ -1,7 +1,7 @@
 use Rattle.std.proofs.Common.{◌≡◌, drop, map}
 use Rattle.core_form.specs.View.{view, part_view, segment_view, def_view, clause_view, pattern_view, exprs, parts, segments, defs, clauses, patterns, keys, segs}
 use Rattle.core_profile.specs.Counted.{counted}
-use Rattle.core_profile.specs.Readings.{key_view, seg_view}
+use Rattle.core_names.specs.Readings.{key_view, seg_view}
 use Rattle.core_profile.specs.LimitWalk.{walk_exprs, walk_parts, walk_segments, walk_defs, walk_clauses, walk_patterns, walk_keys, walk_segs}
 use Rattle.core_profile.proofs.limit_walk.+walk.Given as goal
 

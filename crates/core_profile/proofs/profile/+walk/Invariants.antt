@@ -1,6 +1,6 @@
 use Rattle.std.proofs.Common.{◌≡◌, drop, map}
 use Rattle.core_form.specs.View.{view, part_view, segment_view, def_view, clause_view, pattern_view, exprs, parts, segments, defs, clauses, patterns, keys, segs}
-use Rattle.core_profile.specs.Readings.{key_view, seg_view}
+use Rattle.core_names.specs.Readings.{key_view, seg_view}
 use Rattle.core_profile.specs.ProfileWalk.{met_in_exprs, met_in_parts, met_in_segments, met_in_defs, met_in_clauses, met_in_patterns, met_in_keys, met_in_segs}
 use Rattle.core_profile.proofs.profile.+walk.Given as goal
 

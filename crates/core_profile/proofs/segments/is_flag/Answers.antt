@@ -6,8 +6,8 @@ use Rattle.core_profile.proofs.segments.is_flag.Goals as goal
 
 pub returns : goal.returns
 returns c =
-    (λ i. c.is_same-signed.ensures i || c.is_same-unsigned.ensures i || c.is_same-big.ensures i
-    || c.is_same-little.ensures i)
+    (λ i. c.is_word-signed.ensures i || c.is_word-unsigned.ensures i || c.is_word-big.ensures i
+    || c.is_word-little.ensures i)
     ∙ ap (λ n. same_name n (codes "signed") || same_name n (codes "unsigned") || same_name n (codes "big")
-    || same_name n (codes "little")) c.atom_name-name.ensures
+    || same_name n (codes "little")) c.atom_of-name.ensures
     ∙ sym (flag_named (view c.args.term.now))

@@ -5,5 +5,5 @@ use Rattle.core_profile.proofs.TermForms.{native_named}
 use Rattle.core_profile.proofs.segments.is_native.Goals as goal
 
 pub returns : goal.returns
-returns c = c.is_same.ensures ∙ ap (λ n. same_name n (codes "native")) c.atom_name.ensures
+returns c = c.is_word.ensures ∙ ap (λ n. same_name n (codes "native")) c.atom_of.ensures
     ∙ sym (native_named (view c.args.term.now))

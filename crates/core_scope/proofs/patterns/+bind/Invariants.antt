@@ -1,6 +1,6 @@
 use Rattle.std.proofs.Common.{◌≡◌, drop, map}
 use Rattle.core_form.specs.View.{pattern_view, patterns, keys, segs}
-use Rattle.core_scope.specs.Readings.{plain_key, plain_seg}
+use Rattle.core_names.specs.Readings.{key_view, seg_view}
 use Rattle.core_scope.specs.ScopeWalk.{patterns_met, keys_met, segs_met, patterns_scope, keys_scope, segs_scope}
 use Rattle.core_scope.proofs.patterns.+bind.Given as goal
 
@@ -14,16 +14,16 @@ invariant-bind_patterns-loop-item l = record {
 
 abbrev pub invariant-bind_keys-loop-item : goal.invariant-bind_keys-loop-item
 invariant-bind_keys-loop-item l = record {
-  first : keys_met (keys (map plain_key (drop l.item-index l.items))) l.base l.names l.first
-      ≡ keys_met (keys (map plain_key l.items)) l.base l.initial.names l.initial.first;
-  names : keys_scope (keys (map plain_key (drop l.item-index l.items))) l.names
-      ≡ keys_scope (keys (map plain_key l.items)) l.initial.names;
+  first : keys_met (keys (map key_view (drop l.item-index l.items))) l.base l.names l.first
+      ≡ keys_met (keys (map key_view l.items)) l.base l.initial.names l.initial.first;
+  names : keys_scope (keys (map key_view (drop l.item-index l.items))) l.names
+      ≡ keys_scope (keys (map key_view l.items)) l.initial.names;
 }
 
 abbrev pub invariant-bind_segs-loop-item : goal.invariant-bind_segs-loop-item
 invariant-bind_segs-loop-item l = record {
-  first : segs_met (segs (map plain_seg (drop l.item-index l.items))) l.base l.names l.first
-      ≡ segs_met (segs (map plain_seg l.items)) l.base l.initial.names l.initial.first;
-  names : segs_scope (segs (map plain_seg (drop l.item-index l.items))) l.names
-      ≡ segs_scope (segs (map plain_seg l.items)) l.initial.names;
+  first : segs_met (segs (map seg_view (drop l.item-index l.items))) l.base l.names l.first
+      ≡ segs_met (segs (map seg_view l.items)) l.base l.initial.names l.initial.first;
+  names : segs_scope (segs (map seg_view (drop l.item-index l.items))) l.names
+      ≡ segs_scope (segs (map seg_view l.items)) l.initial.names;
 }

@@ -2,7 +2,7 @@ use Rattle.std.proofs.Common.{rules, ◌≡◌, ◌++◌, ◌∙◌, sym, ap, re
 use Rattle.core_form.specs.declared.tree.ExprForm.{the_lemmas}
 use Rattle.core_form.specs.Scope.{with_names, bound, bound_all, bound_keys, bound_segs}
 use Rattle.core_form.specs.View.{pattern_view, patterns, keys, segs}
-use Rattle.core_sites.specs.Readings.{key_view, seg_view}
+use Rattle.core_names.specs.Readings.{key_view, seg_view}
 use Rattle.core_sites.proofs.Outside.{acted, with_names_append}
 use Rattle.core_sites.proofs.bind.+bind.Goals as goal
 

@@ -1,7 +1,7 @@
 use Rattle.std.proofs.Common.{◌≡◌, drop, map}
 use Rattle.core_form.specs.Scope.{with_names, bound_all, bound_keys, bound_segs}
 use Rattle.core_form.specs.View.{pattern_view, patterns, keys, segs}
-use Rattle.core_sites.specs.Readings.{key_view, seg_view}
+use Rattle.core_names.specs.Readings.{key_view, seg_view}
 use Rattle.core_sites.proofs.bind.+bind.Given as goal
 
 abbrev pub invariant-bind_patterns-loop-item : goal.invariant-bind_patterns-loop-item

@@ -3,7 +3,7 @@ use Rattle.core_form.specs.declared.tree.ExprForm.{the_lemmas}
 use Rattle.core_form.specs.Scope.{with_names, names_of, bound, bound_all, bound_segs}
 use Rattle.core_form.specs.View.{def_view, pattern_view, patterns, segs, defs}
 use Rattle.std.proofs.Common.{map}
-use Rattle.core_sites.specs.Readings.{seg_view}
+use Rattle.core_names.specs.Readings.{seg_view}
 use Rattle.core_sites.specs.Gathering.{gathered_segs}
 use Rattle.core_sites.proofs.Outside.{inner_names, longer, left, next, acted, inside_named, with_names_append}
 use Rattle.core_sites.proofs.gather.+gather.Goals as goal

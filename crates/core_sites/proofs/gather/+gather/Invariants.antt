@@ -1,7 +1,7 @@
 use Rattle.std.proofs.Common.{◌≡◌, drop, map}
 use Rattle.core_form.specs.Scope.{with_names, bound_segs}
 use Rattle.core_form.specs.View.{view, part_view, segment_view, def_view, clause_view, pattern_view, exprs, parts, segments, defs, clauses, patterns, keys, segs}
-use Rattle.core_sites.specs.Readings.{key_view, seg_view}
+use Rattle.core_names.specs.Readings.{key_view, seg_view}
 use Rattle.core_sites.specs.Gathering.{gathered_all, gathered_parts, gathered_segments, gathered_defs, gathered_clauses, gathered_patterns, gathered_keys, gathered_segs}
 use Rattle.core_sites.proofs.gather.+gather.Given as goal
 

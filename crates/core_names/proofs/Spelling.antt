@@ -14,7 +14,7 @@ use Rattle.erl_term.specs.Terms.{list_of}
 use Rattle.erl_term.specs.View.{view, view_step, pair_step}
 use Rattle.core_form.specs.Core.{literal}
 use Rattle.core_form.specs.Walks.{literal_name}
-use Rattle.core_scope.specs.Readings.{atom_in}
+use Rattle.core_names.specs.Readings.{atom_in}
 
 left : (a b : Bool) → (a && b) ≡ true → a ≡ true
 left true b e = refl

@@ -9,9 +9,9 @@ use Rattle.core_form.specs.Core as Plain
 use Rattle.core_form.specs.View.{ExprAt, PatternAt, form_step, pattern_form_step, clause_step, def_step, expr_step, key_step, part_step, pattern_step, seg_step, segment_step}
 
 -- the atom that a term is
-abbrev pub atom_name : Term → Name
-atom_name (T.atom a) = a
-atom_name _ = []
+abbrev pub atom_in : Term → Name
+atom_in (T.atom a) = a
+atom_in _ = []
 
 -- the plain part of a map pattern
 abbrev pub key_view : KeyPattern → Plain.KeyPattern
