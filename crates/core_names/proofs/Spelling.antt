@@ -1,5 +1,5 @@
 -- Texts with the same characters are one text, and atoms of lists without items.
-use Rattle.std.proofs.Common.{◌≡◌, refl, sym, ap, ap₂, ◌∙◌, subst, List, [], ◌∷◌, map, ℕ, chars, IsUtf8, Bool, true, false, ◌&&◌, eqb, bytes_eq, rules, nat_lt, slice_index, zero, suc, ◌<◌, arith}
+use Rattle.std.proofs.Common.{◌≡◌, refl, sym, ap, ap₂, ◌∙◌, subst, List, [], ◌∷◌, map, ℕ, chars, IsUtf8, Bool, true, false, ◌&&◌, ◌||◌, codes, eqb, bytes_eq, rules, nat_lt, slice_index, zero, suc, ◌<◌, arith}
 use Rattle.std.proofs.lemmas.Str.{encodes-chars, chars-IsAscii, chars-nil}
 use lib.Utf8.{encodes}
 use borrow.Author.Tests.{eqb-true, eq-eqb, ltb-true}
@@ -13,6 +13,7 @@ use Rattle.erl_term.specs.Term as Plain
 use Rattle.erl_term.specs.Terms.{list_of}
 use Rattle.erl_term.specs.View.{view, view_step, pair_step}
 use Rattle.core_form.specs.Core.{literal}
+use Rattle.core_form.specs.SourceTree.{is_flag}
 use Rattle.core_form.specs.Walks.{literal_name}
 use Rattle.core_names.specs.Readings.{atom_in}
 
@@ -75,3 +76,10 @@ list_spelled t (x ∷ xs) tail e h = ap atom_in (ap view e ∙ view-list (x ∷ 
 pub literal_spelled : (p : Place) (t : Plain.Term) → literal_name (literal p t) ≡ atom_in t
 literal_spelled p (Plain.atom a) = refl
 literal_spelled p t = refl
+
+-- flags by their names
+pub flag_named : (t : Plain.Term) → is_flag t ≡ (same_name (atom_in t) (codes "signed")
+    || same_name (atom_in t) (codes "unsigned") || same_name (atom_in t) (codes "big")
+    || same_name (atom_in t) (codes "little"))
+flag_named (Plain.atom a) = refl
+flag_named t = refl

@@ -11,11 +11,12 @@
 //! in this scope it captures nothing. Looking up takes no memory and the expected time of one look-up of a hash map;
 //! leaving takes the time of what is left behind.
 //!
-//! Beside it stand what walks through a module ask of names: whether one is a word, and which atom a literal is.
+//! Beside it stand what walks through a module ask of names: whether one is a word, and which atom a literal
+//! is, and whether that is a flag of a segment.
 #![tactic(auto)]
 
 mod table;
 mod words;
 
 pub use table::{Known, Names};
-pub use words::{atom_of, is_word, literal_name};
+pub use words::{atom_of, is_flag, is_word, literal_name};

@@ -3,6 +3,7 @@ ghost use Rattle.std.specs.Prelude.{◌≡◌, chars, IsTrue, nat_lt};
 ghost use Rattle.std.specs.List.{list_all};
 ghost use Rattle.erl_base.specs.Names.{same_name};
 ghost use Rattle.erl_term.specs.View as Terms;
+ghost use Rattle.core_form.specs.SourceTree.{is_flag};
 ghost use Rattle.core_form.specs.Walks.{literal_name};
 ghost use Rattle.core_form.specs.View.{view};
 ghost use Rattle.core_names.specs.Readings.{atom_in};
@@ -54,4 +55,16 @@ pub fn atom_of(term: &Term) -> &str
         | Term::Port(_)
         | Term::RawTrace(_) => "",
     }
+}
+
+/// Whether a term is a flag of a segment: its sign, or its order of bytes.
+pub fn is_flag(term: &Term) -> bool
+    ensures { result ≡ is_flag (Terms.view term.now) }
+{
+    let name = atom_of(term);
+    let signed = is_word(name, "signed");
+    let unsigned = is_word(name, "unsigned");
+    let big = is_word(name, "big");
+    let little = is_word(name, "little");
+    signed | unsigned | big | little
 }

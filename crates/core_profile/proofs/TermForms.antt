@@ -10,7 +10,6 @@ use Rattle.erl_term.specs.Term as Plain
 use Rattle.erl_term.specs.Terms.{list_of}
 use Rattle.erl_term.specs.View.{view, view_step, pair_step}
 use Rattle.core_form.specs.Core.{literal}
-use Rattle.core_form.specs.SourceTree.{is_flag}
 use Rattle.core_form.specs.Walks.{literal_name}
 use Rattle.core_names.specs.Readings.{atom_in}
 use Rattle.core_profile.specs.ProfileFaults.{is_segment_flag, is_flag_list, is_proper_list, is_native, has_native, is_unit}
@@ -40,13 +39,6 @@ proper_in t items tail e = ap is_proper_list (listed t items tail e) ∙ end_of_
 pub native_in : (t : Term) (items : List Term) (tail : Term) → t ≡ V.List items tail
     → has_native (view t) ≡ (list_any is_native (map view items) || has_native (view tail))
 native_in t items tail e = ap has_native (listed t items tail e) ∙ native_in_list (map view items) (view tail)
-
--- flags by their names
-pub flag_named : (t : Plain.Term) → is_flag t ≡ (same_name (atom_in t) (codes "signed")
-    || same_name (atom_in t) (codes "unsigned") || same_name (atom_in t) (codes "big")
-    || same_name (atom_in t) (codes "little"))
-flag_named (Plain.atom a) = refl
-flag_named t = refl
 
 pub native_named : (t : Plain.Term) → is_native t ≡ same_name (atom_in t) (codes "native")
 native_named (Plain.atom a) = refl

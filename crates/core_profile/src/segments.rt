@@ -4,26 +4,14 @@ ghost use Rattle.std.specs.List.{list_all, list_any};
 ghost use Rattle.erl_term.specs.Term as T;
 ghost use Rattle.erl_term.specs.View as Terms;
 ghost use Rattle.core_form.specs.View.{view};
-ghost use Rattle.core_form.specs.SourceTree.{is_flag};
 ghost use Rattle.core_profile.specs.ProfileFaults.{is_native, is_segment_flag, is_flag_list, is_proper_list, has_native, is_unit, is_segment_form, type_outside, native_outside, segment_outside};
 ghost use Rattle.first_fault.specs.FirstFault.{first_with};
 
 use core_form::Expr;
-use core_names::{atom_of, is_word, literal_name};
+use core_names::{atom_of, is_flag, is_word, literal_name};
 use erl_base::{Kind, Name, Outside, Place, Refusal};
 use erl_term::Term;
 use first_fault::keep_if;
-
-fn is_flag(term: &Term) -> bool
-    ensures { result ≡ is_flag (Terms.view term.now) }
-{
-    let name = atom_of(term);
-    let signed = is_word(name, "signed");
-    let unsigned = is_word(name, "unsigned");
-    let big = is_word(name, "big");
-    let little = is_word(name, "little");
-    signed | unsigned | big | little
-}
 
 fn is_native(term: &Term) -> bool
     ensures { result ≡ is_native (Terms.view term.now) }

@@ -4,7 +4,7 @@ pub mod ItemRows
 mod PartBits
 pub mod Deciding
 mod PartRows
-mod WellRows
+pub mod WellRows
 mod Tails
 pub mod Consuming
 pub mod FunForm

@@ -141,7 +141,7 @@ fn whole_before_last(parts: &[Part]) -> bool
 }
 
 /// The bits of the parts, of which all but the last are bytes.
-fn bits_of_parts(alloc: Global, parts: &[Part]) -> Result<Bits, NoMemory>
+pub fn bits_of_parts(alloc: Global, parts: &[Part]) -> Result<Bits, NoMemory>
     requires whole { IsTrue (whole_before_last parts.now) }
     requires sizes { AreParts parts.now }
     ensures value { IfOk result (λ bits. bits_view bits ≡ bits_in parts.now) }

@@ -20,9 +20,11 @@ mod read;
 mod reader;
 mod unread;
 
+pub use bitstrings::bits_of_parts;
 pub use flat::{FunHead, Part};
 pub use laws::{printed_terms_are_read, reading_decides_the_grammar, text_has_one_term};
 pub use lexemes::{behind_blanks, expect, is_space};
+pub use lists::list_of;
 pub use read::read_at;
 pub use reader::{MOST_NESTING, read_term};
 pub use unread::Unread;

@@ -13,7 +13,7 @@ use std::alloc::Global;
 use std::collections::VecDeque;
 
 /// The list with these items and this tail. A tail that is a list, as a string is, gives its items.
-pub(crate) fn joined(alloc: Global, items: Terms, tail: Term) -> Result<Term, NoMemory>
+pub fn list_of(alloc: Global, items: Terms, tail: Term) -> Result<Term, NoMemory>
     requires some { 0 < length items }
     requires items { AreWellFormed items }
     requires tail { IsWellFormed tail }

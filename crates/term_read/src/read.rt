@@ -8,7 +8,7 @@ ghost use Rattle.erl_term.specs.WellRows.{AreWellFormed, PairsWellFormed, IsPair
 use crate::flat::fun_head;
 use crate::leaves::{fun_of, identifier, leaf};
 use crate::lexemes::{behind_blanks, behind_mark, expect, mark_at};
-use crate::lists::{joined, proper};
+use crate::lists::{list_of, proper};
 use crate::unread::Unread;
 use erl_base::List;
 use erl_term::{Pair, Pairs, Term, Terms, map_of};
@@ -139,7 +139,7 @@ fn tail_form(
     };
     if *first != '[' {
         let (tail, rest) = form(cs, alloc, depth)?;
-        return Ok((joined(alloc, found, tail)?, rest));
+        return Ok((list_of(alloc, found, tail)?, rest));
     }
     if let Some(rest) = mark_at(later, b"]") {
         return Ok((proper(alloc, found)?, rest));

@@ -1,8 +1,8 @@
 use Rattle.std.proofs.Common.{◌||◌, sym, ap, ◌∙◌, codes}
 use Rattle.erl_base.specs.Names.{same_name}
 use Rattle.erl_term.specs.View.{view}
-use Rattle.core_profile.proofs.TermForms.{flag_named}
-use Rattle.core_profile.proofs.segments.is_flag.Goals as goal
+use Rattle.core_names.proofs.Spelling.{flag_named}
+use Rattle.core_names.proofs.words.is_flag.Goals as goal
 
 pub returns : goal.returns
 returns c =

@@ -1,0 +1,11 @@
+mod OptionRows
+mod Constants
+mod LiteralRows
+mod PairRows
+mod Appending
+mod KnownRows
+mod PatternRows
+mod BitRows
+mod PartRows
+mod FlagLists
+mod BinaryRows
