@@ -16,6 +16,8 @@ pub mod OneResult
 mod WholeBodies
 mod LiveSteps
 pub mod TwoStorages
+pub mod TwoRules
+pub mod TwoDoes
 pub mod TwoRuns
 pub mod TwoBlocks
 mod TwinOps

@@ -15,7 +15,8 @@ use Rattle.ssa_form.specs.Values.{terms_of}
 use Rattle.ssa_form.specs.SetFacts.{is_tests, names_handler}
 use Rattle.ssa_form.specs.SsaRun.{Vars, in_vars, no_handlers, only_if, without_first, with_handlers, vars_leave}
 use Rattle.ssa_form.specs.Operations.{on_terms, does}
-use Rattle.ssa_form.proofs.TwoStorages.{Opt, opt_none, opt_some, Sim, sim_on, sim_pick, sim_up, sim_over, sim_bad, Two, Traits, traits, left_so, Keeps, writes, does_sim}
+use Rattle.ssa_form.proofs.TwoStorages.{Opt, opt_none, opt_some, Sim, sim_on, sim_pick, sim_up, sim_over, sim_bad, Two, Traits, traits, left_so, Keeps, writes}
+use Rattle.ssa_form.proofs.TwoDoes.{does_sim}
 
 abbrev pub fr : (ℕ → Held) → List MatchContext → ℕ → Option Message → List Handler → Frame Vars
 fr X c n w hs = record { store = record { values = X; handlers = hs }; contexts = c; save = n; window = w }

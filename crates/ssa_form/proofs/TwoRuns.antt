@@ -11,7 +11,8 @@ use Rattle.ssa_form.specs.Storage.{Handler, Leaving, Storage, Frame, After, next
 use Rattle.ssa_form.specs.SetFacts.{is_tests}
 use Rattle.ssa_form.specs.Operations.{all_held, does}
 use Rattle.ssa_form.specs.SsaRun.{Raised, mode_of, picked, acts_do, set_does, chain_does, Go, leave_next, leave_choose, raised_to, leave, entered_by, block_does, blocks}
-use Rattle.ssa_form.proofs.TwoStorages.{at, lk, writes, traits, Two, Sim, sim_on, sim_pick, sim_up, sim_over, sim_bad, Keeps, leaves_by, does_sim}
+use Rattle.ssa_form.proofs.TwoStorages.{at, lk, writes, traits, Two, Sim, sim_on, sim_pick, sim_up, sim_over, sim_bad, Keeps, leaves_by}
+use Rattle.ssa_form.proofs.TwoDoes.{does_sim}
 
 -- Whole runs. The two bodies have blocks with the same lasts; arrives: where a block is entered, with what was raised.
 pub data Same : Ended → Ended → Type 0 where
