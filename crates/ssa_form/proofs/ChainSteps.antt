@@ -171,9 +171,6 @@ module _ (b : Body) (n : ℕ) (x : Block) (there : block_at b n ≡ Some x) wher
 
   module _ {S : Type 0} (o : Storage S) (around : Around) (here : Here) (lowers : Lowers here.enter)
       (open_in : S → List Handler) (tracks : Tracks o open_in) where
-    abbrev pub walk : Frame S → State → Walk S
-    walk f s = record { o = o; around = around; here = here; open_in = open_in; tracks = tracks; f0 = f; s0 = s }
-
     -- Frame actions.
 
     acts_only : (as' : List FrameAction) (f0 : Frame S) (s0 : State) (f : Frame S) (s : State) → Eases open_in f0 s0 f s
@@ -222,7 +219,7 @@ module _ (b : Body) (n : ℕ) (x : Block) (there : block_at b n ≡ Some x) wher
         → Steps open_in y.op m y.dst f s
         (go_on a (λ g u. does o around here y.op y.args m y.dst (all_held o around here g y.args) g u))
     set_after m y f s (next g u) i e = steps_after y.op m y.dst f s g u _ e
-        (steps (walk g u) lowers (e.fits i) y.op y.args m y.dst (all_held o around here g y.args))
+        (steps o around here lowers open_in tracks y.op m y.dst g u (e.fits i) y.args (all_held o around here g y.args))
     set_after m y f s After.bad i e = tt
     set_after m y f s (choose c g u) i e = absurd e
     set_after m y f s (raise c z g u) i e = absurd e

@@ -2,6 +2,7 @@ pub mod MoreBlocks
 mod Rank
 mod OpenHandlers
 mod Spending
+pub mod Moves
 mod OpTurns
 mod OpSteps
 mod ChainSteps
@@ -17,10 +18,12 @@ mod WholeBodies
 mod LiveSteps
 pub mod TwoStorages
 pub mod TwoRules
+pub mod TwoTerms
 pub mod TwoDoes
+pub mod OneStorage
 pub mod TwoRuns
 pub mod TwoBlocks
-mod TwinOps
+pub mod VarLists
 mod TwinChains
 mod TwinRuns
 pub mod Numbered

@@ -1,12 +1,12 @@
 -- One induction over all operations, for two storages: where the parts of the storages keep these relations, every
--- operation does, as long as the first one breaks no rule.
-use Rattle.std.proofs.Common.{◌≡◌, ◌⊎◌, inl, inr, ℕ, suc, List, [], ◌∷◌, length, Bool, true, false, not, ◌%◌, ◌&&◌, ◌||◌, leb, Option, Some, None, refl, sym, ap, subst, ◌∙◌, eqb, IsTrue, if◌then◌else◌, slice_get}
+-- operation does, as long as the first one breaks no rule; and what it does beside its values is one of the moves.
+use Rattle.std.proofs.Common.{◌≡◌, ◌⊎◌, inl, inr, ℕ, suc, List, [], ◌∷◌, length, Bool, true, false, not, ◌%◌, ◌&&◌, ◌||◌, leb, Option, Some, None, refl, sym, ap, subst, ◌∙◌, eqb, IsTrue, IsFalse, if◌then◌else◌, slice_get}
 use Rattle.erl_term.specs.Term as Tm
 use Rattle.erl_term.specs.Term.{Term, Class}
 use Rattle.erl_term.specs.Terms.{Values, terms, listed, value_at, only}
 use Rattle.erl_term.specs.Segments.{Shape, taken_size, segment_value}
 use Rattle.bif_table.specs.BuiltinAnswer.{Answer, value, raised, answer}
-use Rattle.bif_table.specs.Builtins.{arity_of, is_guard, is_collecting}
+use Rattle.bif_table.specs.Builtins.{Bif, arity_of, is_guard, is_collecting}
 use Rattle.world_model.specs.World as World
 use Rattle.world_model.specs.World.{Reply, Message, Delay, forever, millis}
 use Rattle.world_model.specs.Run.{State, Outcome, gives, raises, waits, spent, M, ◌>>=◌, ask, answered, noting, cut}
@@ -21,189 +21,274 @@ use Rattle.ssa_form.specs.Ssa.{Arg, var, lit, Op}
 use Rattle.ssa_form.specs.Checks.{check_holds}
 use Rattle.ssa_form.specs.Storage.{Held, unset, term, context, position, marker, Handler, Leaving, calls, ends_body, always_raises, Storage, Frame, After, next, choose, raise, finish, Mode, plain, tail, jump, tests, Around, go_on, when, if_some, outside}
 use Rattle.ssa_form.specs.Values.{terms_of, handed, raises_for_sure, puts_of, parts_of, is_tail, part_cuts}
-use Rattle.ssa_form.specs.SetFacts.{gives_nothing, is_peek, is_tests, is_try_start, unsets_registers}
+use Rattle.ssa_form.specs.SetFacts.{gives_nothing, is_peek, is_tests, is_try_start, unsets_registers, never_raises}
 use Rattle.ssa_form.specs.Operations.{put, collected, gives_held, asked, found, answers, leaving, follows, follows_by, ends_with, calls_by, leaving_of, local_does, remote_does, fun_does, send_does, raise_does, cons_does, map_does, option_held, key_does, element_does, cell_does, fun_made, start_does, with_context, at_context, took, takes_segment, restore_does, open_does, close_does, created, seen, seen_or, looks, peek_does, take_does, skip_does, waited, waits_for, wait_does, bind_does, use_does, on_terms, does}
-use Rattle.ssa_form.proofs.TwoStorages.{Opt, opt_none, opt_some, at, lk, left_by, leaves_by, writes, Two, Traits, traits, left_so, Keeps, Sim, sim_on, sim_pick, sim_up, sim_over, sim_bad}
-use Rattle.ssa_form.proofs.TwoRules.{again_sim, answers_sim, asked_sim, at_sim, bind_sim, calls_sim, cell_sim, cleared_on, cleared_pick, cleared_up, close_sim, collected_sim, cons_sim, element_sim, ending_sim, ends_sim, follows_by_sim, follows_cleared, follows_sim, found_sim, fun_made_sim, fun_sim, gives_sim, key_sim, leaving_sim, local_sim, map_sim, no_and, no_end, no_end_of_raising, open_sim, opt_sim, outside_sim, peek_sim, picked_sim, put_cleared, put_sim, raise_sim, remote_sim, restore_sim, same_and, same_flag, same_on, same_pick, same_up, segment_sim, send_sim, skip_sim, some_sim, start_sim, take_sim, took_sim, use_sim, wait_sim, waited_sim, waits_sim, when_sim, with_sim}
+use Rattle.ssa_form.proofs.Moves.{at, as_it_was, nowhere, to_note}
+use Rattle.ssa_form.proofs.Spending.{answers_value}
+use Rattle.ssa_form.proofs.TwoStorages.{lk, leaves_by, is_try_end, is_take, Two, Traits, traits, Calm, Keeps, Sim, sim_bad}
+use Rattle.ssa_form.proofs.TwoRules.{some_sim, when_sim, collected_sim, Permits, put_sim, gives_sim, asked_sim, answers_sim, local_sim, remote_sim, fun_sim, send_sim, trace_sim}
+use Rattle.ssa_form.proofs.TwoTerms.{raise_sim, cons_sim, map_sim, key_sim, element_sim, cell_sim, fun_made_sim, start_sim, at_sim, segment_sim, restore_sim, close_sim, open_sim, wait_sim, skip_sim, bind_sim, back_sim, use_sim, take_sim, peek_sim}
+
+-- operations that are no handlers, looks or takings
+abbrev is_calm : Op → Bool
+is_calm op = not (is_try_start op || is_try_end op || is_peek op || is_take op)
+
+calm_by : (f : Traits) → IsTrue (not (f.opens || f.closes || f.looks || f.takes)) → Calm f
+calm_by f e = by f.opens f.closes f.looks f.takes refl refl refl refl e
+  where
+    by : (a b c d : Bool) → f.opens ≡ a → f.closes ≡ b → f.looks ≡ c → f.takes ≡ d → IsTrue (not (a || b || c || d))
+        → Calm f
+    by false false false false i j k l h =
+        record { steady = record { opens = i; closes = j }; looks = k; takes = l }
+    by false false false true i j k l h = absurd cc
+    by false false true d i j k l h = absurd cc
+    by false true c d i j k l h = absurd cc
+    by true b c d i j k l h = absurd cc
+
+calm : (m : Mode) (op : Op) → IsTrue (is_calm op) → Calm (traits m op)
+calm m op e = calm_by (traits m op) e
+
+and_first : (a b : Bool) → (a && b) ≡ true → a ≡ true
+and_first true b e = refl
+and_first false b e = absurd cc
 
 module _ {S T : Type 0} (two : Two S T) (x : S) (y : T) (c : List MatchContext) (n : ℕ) (w : Option Message)
     (r : two.before (lk w) x y) (s : State) where
-  abbrev Simulates : Op → Mode → After S → After T → Type 0
-  Simulates op m a z = Sim two (writes op) (is_tests m) a z
+  abbrev K : Op → Traits
+  K op = traits two.mode op
+
+  abbrev Simulates : Op → After S → After T → Type 0
+  Simulates op a z = Sim two (K op) n w s a z
 
   -- the ways in which it lets control leave are allowed
-  abbrev pub Leaves : Op → Mode → Type 0
-  Leaves op m = (l : Leaving) → leaves_by op m l → two.ok l
+  abbrev pub Leaves : Op → Type 0
+  Leaves op = (l : Leaving) → leaves_by op two.mode l → two.ok l
 
-  terms_sim : (op : Op) → Keeps two (traits op) → (m : Mode) → Leaves op m → (vs : Values)
-      → Simulates op m (on_terms two.o two.around two.here op m two.dst vs (at x c n w) s)
-      (on_terms two.p two.around two.here op m two.dst vs (at y c n w) s)
-  unfolding on_terms
-  terms_sim (Ssa.bif b) k m lv vs = when_sim two (traits (Ssa.bif b)) (is_tests m) k
-      (eqb (length vs) (arity_of b) && is_guard b) _ _ (by (is_collecting b))
+  -- what it lets be raised
+  abbrev P : (op : Op) → Keeps two (K op) → Answer → Type 0
+  P op k a = Permits two (K op) k n w s two.mode a
+
+  bif_permits : (b : Bif) (k : Keeps two (K (Ssa.bif b))) (vs : Values) → eqb (length vs) (arity_of b) ≡ true
+      → P (Ssa.bif b) k (answer b two.here.own vs)
+  bif_permits b k vs h = by (never_raises b) refl
     where
-      by : (t : Bool) → Sim two true (is_tests m) (if t then collected two.o two.around two.here (at x c n w)
-          (λ g. answers two.o two.around two.here m two.dst (answer b two.here.own vs) g s) else answers two.o
-          two.around two.here m two.dst (answer b two.here.own vs) (at x c n w) s)
-          (if t then collected two.p two.around two.here (at y c n w)
-          (λ g. answers two.p two.around two.here m two.dst (answer b two.here.own vs) g s) else answers two.p
-          two.around two.here m two.dst (answer b two.here.own vs) (at y c n w) s)
-      by true = collected_sim two (traits (Ssa.bif b)) (is_tests m) k x y c n w r
-          (λ g. answers two.o two.around two.here m two.dst (answer b two.here.own vs) g s)
-          (λ g. answers two.p two.around two.here m two.dst (answer b two.here.own vs) g s)
-          (λ a z q. answers_sim two (traits (Ssa.bif b)) (is_tests m) k a z c n w q s refl refl m refl
-          (answer b two.here.own vs))
-      by false = answers_sim two (traits (Ssa.bif b)) (is_tests m) k x y c n w r s refl refl m refl
-          (answer b two.here.own vs)
-  terms_sim Ssa.cons k m lv vs = collected_sim two (traits Ssa.cons) (is_tests m) k x y c n w r
+      to_value : (a : Answer) (t : Term) → a ≡ value t → P (Ssa.bif b) k a
+      to_value a t e = rw e tt
+
+      to_any : (a : Answer) → never_raises b ≡ false → P (Ssa.bif b) k a
+      to_any (value t) e = tt
+      to_any (raised q t) e = λ f. simp (f, e) refl
+
+      by : (z : Bool) → never_raises b ≡ z → P (Ssa.bif b) k (answer b two.here.own vs)
+      by true e = let a : (t : Term) × (answer b two.here.own vs ≡ value t) =
+          answers_value b two.here.own vs e h in to_value _ a.0 a.1
+      by false e = to_any (answer b two.here.own vs) e
+
+  bif_sim : (b : Bif) → Keeps two (K (Ssa.bif b)) → (vs : Values) → (a : Answer)
+      → ((k : Keeps two (K (Ssa.bif b))) → P (Ssa.bif b) k a) → (t : Bool)
+      → Simulates (Ssa.bif b)
+      (if t then collected two.o two.around two.here (at x c n w)
+      (λ g. answers two.o two.around two.here two.mode two.dst a g s)
+      else answers two.o two.around two.here two.mode two.dst a (at x c n w) s)
+      (if t then collected two.p two.around two.here (at y c n w)
+      (λ g. answers two.p two.around two.here two.mode two.dst a g s)
+      else answers two.p two.around two.here two.mode two.dst a (at y c n w) s)
+  bif_sim b k vs a h true = collected_sim two (K (Ssa.bif b)) k n w s x y c n w r
+      (λ g. answers two.o two.around two.here two.mode two.dst a g s)
+      (λ g. answers two.p two.around two.here two.mode two.dst a g s)
+      (λ f z q. answers_sim two (K (Ssa.bif b)) k n w s (calm two.mode (Ssa.bif b) refl) f z c n w q s (nowhere refl)
+      refl two.mode refl a (h k))
+  bif_sim b k vs a h false = answers_sim two (K (Ssa.bif b)) k n w s (calm two.mode (Ssa.bif b) refl) x y c n w r s
+      (nowhere refl) refl two.mode refl a (h k)
+
+  created_permits : (gs : List Shape) (k : Keeps two (K (Ssa.bs_create gs))) (i : Option (List Bool))
+      → P (Ssa.bs_create gs) k (created two.o two.around two.here i)
+  created_permits gs k None = λ f. rw f refl
+  created_permits gs k (Some bs) = tt
+
+  made : (gs : List Shape) (k : Keeps two (K (Ssa.bs_create gs))) (a : S) (z : T) → two.before (lk w) a z
+      → (i : Option (List Bool))
+      → Simulates (Ssa.bs_create gs)
+      (answers two.o two.around two.here two.mode two.dst (created two.o two.around two.here i) (at a c n w) s)
+      (answers two.p two.around two.here two.mode two.dst (created two.p two.around two.here i) (at z c n w) s)
+  made gs k a z q None = answers_sim two (K (Ssa.bs_create gs)) k n w s (calm two.mode (Ssa.bs_create gs) refl) a z c n
+      w q s (nowhere refl) refl two.mode refl (created two.o two.around two.here None) (created_permits gs k None)
+  made gs k a z q (Some bs) = answers_sim two (K (Ssa.bs_create gs)) k n w s (calm two.mode (Ssa.bs_create gs) refl) a z
+      c n w q s (nowhere refl) refl two.mode refl (value (Tm.bits bs)) (created_permits gs k (Some bs))
+
+  terms_sim : (op : Op) → Keeps two (K op) → Leaves op → (vs : Values)
+      → Simulates op (on_terms two.o two.around two.here op two.mode two.dst vs (at x c n w) s)
+      (on_terms two.p two.around two.here op two.mode two.dst vs (at y c n w) s)
+  unfolding on_terms
+  terms_sim (Ssa.bif b) k lv vs = when_sim two (K (Ssa.bif b)) k n w s (eqb (length vs) (arity_of b) && is_guard b) _ _
+      (λ e. bif_sim b k vs (answer b two.here.own vs) (λ i. bif_permits b i vs (and_first _ _ e)) (is_collecting b))
+  terms_sim Ssa.cons k lv vs = collected_sim two (K Ssa.cons) k n w s x y c n w r
       (λ g. cons_does two.o two.around two.here two.dst vs g s)
       (λ g. cons_does two.p two.around two.here two.dst vs g s)
-      (λ a z q. cons_sim two (traits Ssa.cons) (is_tests m) k a z c n w q s refl vs)
-  terms_sim Ssa.tuple k m lv vs = collected_sim two (traits Ssa.tuple) (is_tests m) k x y c n w r
+      (λ a z q. cons_sim two (K Ssa.cons) k n w s (calm two.mode Ssa.cons refl) a z c n w q s (nowhere refl) refl vs)
+  terms_sim Ssa.tuple k lv vs = collected_sim two (K Ssa.tuple) k n w s x y c n w r
       (λ g. put two.o two.around two.here two.dst (term (Tm.tuple (terms vs))) g s)
       (λ g. put two.p two.around two.here two.dst (term (Tm.tuple (terms vs))) g s)
-      (λ a z q. put_sim two (traits Ssa.tuple) (is_tests m) k refl (term (Tm.tuple (terms vs))) a z c n w q s)
-  terms_sim (Ssa.map_put exact) k m lv vs = collected_sim two (traits (Ssa.map_put exact)) (is_tests m) k x y c n w r
-      (λ g. map_does two.o two.around two.here exact m two.dst vs g s)
-      (λ g. map_does two.p two.around two.here exact m two.dst vs g s)
-      (λ a z q. map_sim two (traits (Ssa.map_put exact)) (is_tests m) k a z c n w q s refl refl exact m refl vs)
-  terms_sim Ssa.map_get k m lv vs = key_sim two (traits Ssa.map_get) (is_tests m) k x y c n w r s refl refl m refl vs
-  terms_sim (Ssa.element i) k m lv vs = element_sim two (traits (Ssa.element i)) (is_tests m) k x y c n w r s refl i vs
-  terms_sim Ssa.hd k m lv vs = cell_sim two (traits Ssa.hd) (is_tests m) k x y c n w r s refl true vs
-  terms_sim Ssa.tl k m lv vs = cell_sim two (traits Ssa.tl) (is_tests m) k x y c n w r s refl false vs
-  terms_sim (Ssa.check i) k m lv vs = some_sim two (traits (Ssa.check i)) (is_tests m) k (check_holds i vs) _ _
-      (λ b. asked_sim two (traits (Ssa.check i)) (is_tests m) k x y c n w r s m refl b refl refl)
-  terms_sim (Ssa.make_fun i) k m lv vs = collected_sim two (traits (Ssa.make_fun i)) (is_tests m) k x y c n w r
+      (λ a z q. put_sim two (K Ssa.tuple) k n w s (calm two.mode Ssa.tuple refl) refl (term (Tm.tuple (terms vs))) a z c
+      n w q s (nowhere refl))
+  terms_sim (Ssa.map_put exact) k lv vs = collected_sim two (K (Ssa.map_put exact)) k n w s x y c n w r
+      (λ g. map_does two.o two.around two.here exact two.mode two.dst vs g s)
+      (λ g. map_does two.p two.around two.here exact two.mode two.dst vs g s)
+      (λ a z q. map_sim two (K (Ssa.map_put exact)) k n w s (calm two.mode (Ssa.map_put exact) refl) a z c n w q s
+      (nowhere refl) refl exact two.mode refl (λ f. rw f refl) vs)
+  terms_sim Ssa.map_get k lv vs = key_sim two (K Ssa.map_get) k n w s (calm two.mode Ssa.map_get refl) x y c n w r s
+      (nowhere refl) refl two.mode refl vs
+  terms_sim (Ssa.element i) k lv vs = element_sim two (K (Ssa.element i)) k n w s (calm two.mode (Ssa.element i) refl) x
+      y c n w r s (nowhere refl) refl i vs
+  terms_sim Ssa.hd k lv vs = cell_sim two (K Ssa.hd) k n w s (calm two.mode Ssa.hd refl) x y c n w r s (nowhere refl)
+      refl true vs
+  terms_sim Ssa.tl k lv vs = cell_sim two (K Ssa.tl) k n w s (calm two.mode Ssa.tl refl) x y c n w r s (nowhere refl)
+      refl false vs
+  terms_sim (Ssa.check i) k lv vs = some_sim two (K (Ssa.check i)) k n w s (check_holds i vs) _ _
+      (λ b. asked_sim two (K (Ssa.check i)) k n w s (calm two.mode (Ssa.check i) refl) x y c n w r s (nowhere refl)
+      two.mode refl b refl)
+  terms_sim (Ssa.make_fun i) k lv vs = collected_sim two (K (Ssa.make_fun i)) k n w s x y c n w r
       (λ g. fun_made two.o two.around two.here i two.dst vs g s)
       (λ g. fun_made two.p two.around two.here i two.dst vs g s)
-      (λ a z q. fun_made_sim two (traits (Ssa.make_fun i)) (is_tests m) k a z c n w q s refl i vs)
-  terms_sim Ssa.call_fun k m lv vs = fun_sim two (traits Ssa.call_fun) (is_tests m) k x y c n w r s refl refl refl
-      (lv calls refl) vs
-  terms_sim Ssa.call_remote k m lv vs = remote_sim two (traits Ssa.call_remote) (is_tests m) k x y c n w r s refl refl
-      refl m (lv _ (inl refl)) (lv _ (inr refl)) vs
-  terms_sim Ssa.send k m lv vs = send_sim two (traits Ssa.send) (is_tests m) k x y c n w r s refl refl refl m
-      (lv _ refl) vs
-  terms_sim Ssa.trace k m lv [] = calls_sim two (traits Ssa.trace) (is_tests m) k x y c n w r s refl refl refl plain
-      calls (lv calls refl) (no_end two (traits Ssa.trace) (is_tests m) k) (ask World.trace >>= λ q. single q.term)
-  terms_sim Ssa.trace k m lv (v ∷ vs) = sim_bad After.bad
-  terms_sim Ssa.raise k m lv vs = raise_sim two (traits Ssa.raise) (is_tests m) k x y c n w r s vs
-  terms_sim (Ssa.bs_create gs) k m lv vs = collected_sim two (traits (Ssa.bs_create gs)) (is_tests m) k x y c n w r
-      (λ g. if_some (parts_of gs vs) λ q. answers two.o two.around two.here m two.dst
+      (λ a z q. fun_made_sim two (K (Ssa.make_fun i)) k n w s (calm two.mode (Ssa.make_fun i) refl) a z c n w q s
+      (nowhere refl) refl i vs)
+  terms_sim Ssa.call_fun k lv vs = fun_sim two (K Ssa.call_fun) k n w s (calm two.mode Ssa.call_fun refl) x y c r refl
+      refl refl (lv calls refl) vs
+  terms_sim Ssa.call_remote k lv vs = remote_sim two (K Ssa.call_remote) k n w s (calm two.mode Ssa.call_remote refl) x
+      y c r refl refl refl two.mode (lv _ (inl refl)) (lv _ (inr refl)) vs
+  terms_sim Ssa.send k lv vs = send_sim two (K Ssa.send) k n w s (calm two.mode Ssa.send refl) x y c r refl refl refl
+      two.mode (lv _ refl) vs
+  terms_sim Ssa.trace k lv [] = trace_sim two (K Ssa.trace) k n w s (calm two.mode Ssa.trace refl) x y c r refl refl
+      (lv calls refl)
+  terms_sim Ssa.trace k lv (v ∷ vs) = sim_bad After.bad
+  terms_sim Ssa.raise k lv vs = raise_sim two (K Ssa.raise) k n w s (calm two.mode Ssa.raise refl) x y c n w r s
+      (nowhere refl) refl vs
+  terms_sim (Ssa.bs_create gs) k lv vs = collected_sim two (K (Ssa.bs_create gs)) k n w s x y c n w r
+      (λ g. if_some (parts_of gs vs) λ q. answers two.o two.around two.here two.mode two.dst
       (created two.o two.around two.here q) g s)
-      (λ g. if_some (parts_of gs vs) λ q. answers two.p two.around two.here m two.dst
+      (λ g. if_some (parts_of gs vs) λ q. answers two.p two.around two.here two.mode two.dst
       (created two.p two.around two.here q) g s)
-      (λ a z q. some_sim two (traits (Ssa.bs_create gs)) (is_tests m) k (parts_of gs vs) _ _ (made a z q))
-    where
-      made : (a : S) (z : T) → two.before (lk w) a z → (i : Option (List Bool))
-          → Sim two true (is_tests m) (answers two.o two.around two.here m two.dst (created two.o two.around two.here i)
-          (at a c n w) s) (answers two.p two.around two.here m two.dst (created two.p two.around two.here i)
-          (at z c n w) s)
-      made a z q None = answers_sim two (traits (Ssa.bs_create gs)) (is_tests m) k a z c n w q s refl refl m refl
-          (created two.o two.around two.here None)
-      made a z q (Some bs) = answers_sim two (traits (Ssa.bs_create gs)) (is_tests m) k a z c n w q s refl refl m refl
-          (value (Tm.bits bs))
-  terms_sim Ssa.take_message k m lv [] = take_sim two (traits Ssa.take_message) (is_tests m) k refl refl x y c n w r s
-  terms_sim Ssa.take_message k m lv (v ∷ vs) = sim_bad After.bad
-  terms_sim Ssa.skip_message k m lv [] = skip_sim two (traits Ssa.skip_message) (is_tests m) k refl refl x y c n w r m s
-  terms_sim Ssa.skip_message k m lv (v ∷ vs) = sim_bad After.bad
-  terms_sim Ssa.wait k m lv vs = wait_sim two (traits Ssa.wait) (is_tests m) k refl refl x y c n w r m refl vs s
-  terms_sim Ssa.reset k m lv [] = outside_sim two (traits Ssa.reset) (is_tests m) k x y c n w _ _
-      (same_on two (traits Ssa.reset) (is_tests m) k refl refl x y c 0 w r s)
-  terms_sim Ssa.reset k m lv (v ∷ vs) = sim_bad After.bad
-  terms_sim Ssa.reserve k m lv [] = put_sim two (traits Ssa.reserve) (is_tests m) k refl (marker s.next) x y c n w r s
-  terms_sim Ssa.reserve k m lv (v ∷ vs) = sim_bad After.bad
-  terms_sim Ssa.use_marker k m lv vs = use_sim two (traits Ssa.use_marker) (is_tests m) k x y c n w r s refl refl vs
-  terms_sim _ k m lv vs = sim_bad After.bad
+      (λ a z q. some_sim two (K (Ssa.bs_create gs)) k n w s (parts_of gs vs) _ _ (made gs k a z q))
+  terms_sim Ssa.take_message k lv [] = take_sim two (K Ssa.take_message) k n w s refl refl refl
+      (record { opens = refl; closes = refl }) x y c w refl r
+  terms_sim Ssa.take_message k lv (v ∷ vs) = sim_bad After.bad
+  terms_sim Ssa.skip_message k lv [] = skip_sim two (K Ssa.skip_message) k n w s (calm two.mode Ssa.skip_message refl)
+      refl x y c refl w refl r two.mode
+  terms_sim Ssa.skip_message k lv (v ∷ vs) = sim_bad After.bad
+  terms_sim Ssa.wait k lv vs = wait_sim two (K Ssa.wait) k n w s (calm two.mode Ssa.wait refl) refl x y c refl refl w
+      refl r two.mode refl vs
+  terms_sim Ssa.reset k lv [] = back_sim two (K Ssa.reset) k n w s (calm two.mode Ssa.reset refl) refl x y c refl r 0 s
+      as_it_was
+  terms_sim Ssa.reset k lv (v ∷ vs) = sim_bad After.bad
+  terms_sim Ssa.reserve k lv [] = put_sim two (K Ssa.reserve) k n w s (calm two.mode Ssa.reserve refl) refl
+      (marker s.next) x y c n w r s (nowhere refl)
+  terms_sim Ssa.reserve k lv (v ∷ vs) = sim_bad After.bad
+  terms_sim Ssa.use_marker k lv vs = use_sim two (K Ssa.use_marker) k n w s (calm two.mode Ssa.use_marker refl) refl x y
+      c refl r vs
+  terms_sim _ k lv vs = sim_bad After.bad
 
-  by_terms : (op : Op) → Keeps two (traits op) → (m : Mode) → Leaves op m → (xs : List Held)
-      → Simulates op m (if_some (terms_of xs) (λ vs. on_terms two.o two.around two.here op m two.dst vs (at x c n w) s))
-      (if_some (terms_of xs) (λ vs. on_terms two.p two.around two.here op m two.dst vs (at y c n w) s))
-  by_terms op k m lv xs = some_sim two (traits op) (is_tests m) k (terms_of xs) _ _ (λ vs. terms_sim op k m lv vs)
+  by_terms : (op : Op) → Keeps two (K op) → Leaves op → (xs : List Held)
+      → Simulates op
+      (if_some (terms_of xs) (λ vs. on_terms two.o two.around two.here op two.mode two.dst vs (at x c n w) s))
+      (if_some (terms_of xs) (λ vs. on_terms two.p two.around two.here op two.mode two.dst vs (at y c n w) s))
+  by_terms op k lv xs = some_sim two (K op) k n w s (terms_of xs) _ _ (λ vs. terms_sim op k lv vs)
 
-  pub does_sim : (op : Op) → Keeps two (traits op) → (as' : List Arg) (m : Mode) → Leaves op m → (xs : List Held)
-      → Simulates op m (does two.o two.around two.here op as' m two.dst xs (at x c n w) s)
-      (does two.p two.around two.here op as' m two.dst xs (at y c n w) s)
+  copy_sim : Keeps two (K Ssa.copy) → (h : Held)
+      → Simulates Ssa.copy (put two.o two.around two.here two.dst h (at x c n w) s)
+      (put two.p two.around two.here two.dst h (at y c n w) s)
+  copy_sim k h = put_sim two (K Ssa.copy) k n w s (calm two.mode Ssa.copy refl) refl h x y c n w r s (nowhere refl)
+
+  pub does_sim : (op : Op) → Keeps two (K op) → (as' : List Arg) → Leaves op → (xs : List Held)
+      → Simulates op (does two.o two.around two.here op as' two.mode two.dst xs (at x c n w) s)
+      (does two.p two.around two.here op as' two.mode two.dst xs (at y c n w) s)
   unfolding does
-  does_sim Ssa.copy k as' m lv [] = by_terms Ssa.copy k m lv []
-  does_sim Ssa.copy k as' m lv (unset ∷ []) = sim_bad After.bad
-  does_sim Ssa.copy k as' m lv (term t ∷ []) = put_sim two (traits Ssa.copy) (is_tests m) k refl (term t) x y c n w r s
-  does_sim Ssa.copy k as' m lv (context i ∷ []) = put_sim two (traits Ssa.copy) (is_tests m) k refl (context i) x y c n
-      w r s
-  does_sim Ssa.copy k as' m lv (position i ∷ []) = put_sim two (traits Ssa.copy) (is_tests m) k refl (position i) x y c
-      n w r s
-  does_sim Ssa.copy k as' m lv (marker i ∷ []) = put_sim two (traits Ssa.copy) (is_tests m) k refl (marker i) x y c n w
-      r s
-  does_sim Ssa.copy k as' m lv (u ∷ v ∷ xs) = by_terms Ssa.copy k m lv (u ∷ v ∷ xs)
-  does_sim (Ssa.call_local i) k as' m lv xs = local_sim two (traits (Ssa.call_local i)) (is_tests m) k x y c n w r s
-      refl refl refl i m (lv _ refl) xs
-  does_sim Ssa.bs_start k as' m lv xs = collected_sim two (traits Ssa.bs_start) (is_tests m) k x y c n w r
-      (λ g. start_does two.o two.around two.here m two.dst xs g s)
-      (λ g. start_does two.p two.around two.here m two.dst xs g s)
-      (λ a z q. start_sim two (traits Ssa.bs_start) (is_tests m) k a z c n w q s refl refl m refl xs)
-  does_sim (Ssa.bs_integer j) k as' m lv xs = collected_sim two (traits (Ssa.bs_integer j)) (is_tests m) k x y c n w r
-      (λ g. takes_segment two.o two.around two.here j m xs g s λ bs u. gives_held two.o two.around two.here m two.dst
+  does_sim Ssa.copy k as' lv [] = by_terms Ssa.copy k lv []
+  does_sim Ssa.copy k as' lv (unset ∷ []) = sim_bad After.bad
+  does_sim Ssa.copy k as' lv (term t ∷ []) = copy_sim k (term t)
+  does_sim Ssa.copy k as' lv (context i ∷ []) = copy_sim k (context i)
+  does_sim Ssa.copy k as' lv (position i ∷ []) = copy_sim k (position i)
+  does_sim Ssa.copy k as' lv (marker i ∷ []) = copy_sim k (marker i)
+  does_sim Ssa.copy k as' lv (u ∷ v ∷ xs) = by_terms Ssa.copy k lv (u ∷ v ∷ xs)
+  does_sim (Ssa.call_local i) k as' lv xs = local_sim two (K (Ssa.call_local i)) k n w s
+      (calm two.mode (Ssa.call_local i) refl) x y c r refl refl refl i two.mode (lv _ refl) xs
+  does_sim Ssa.bs_start k as' lv xs = collected_sim two (K Ssa.bs_start) k n w s x y c n w r
+      (λ g. start_does two.o two.around two.here two.mode two.dst xs g s)
+      (λ g. start_does two.p two.around two.here two.mode two.dst xs g s)
+      (λ a z q. start_sim two (K Ssa.bs_start) k n w s (calm two.mode Ssa.bs_start refl) a z c n w q s (nowhere refl)
+      refl two.mode refl xs)
+  does_sim (Ssa.bs_integer j) k as' lv xs = collected_sim two (K (Ssa.bs_integer j)) k n w s x y c n w r
+      (λ g. takes_segment two.o two.around two.here j two.mode xs g s λ bs u. gives_held two.o two.around two.here
+      two.mode two.dst (term (segment_value (record j { is_binary = false }) bs)) u s)
+      (λ g. takes_segment two.p two.around two.here j two.mode xs g s λ bs u. gives_held two.p two.around two.here
+      two.mode two.dst (term (segment_value (record j { is_binary = false }) bs)) u s)
+      (λ a z q. segment_sim two (K (Ssa.bs_integer j)) k n w s (calm two.mode (Ssa.bs_integer j) refl) a z c n w q s
+      (nowhere refl) j two.mode refl xs
+      (λ bs u. gives_held two.o two.around two.here two.mode two.dst
       (term (segment_value (record j { is_binary = false }) bs)) u s)
-      (λ g. takes_segment two.p two.around two.here j m xs g s λ bs u. gives_held two.p two.around two.here m two.dst
+      (λ bs u. gives_held two.p two.around two.here two.mode two.dst
       (term (segment_value (record j { is_binary = false }) bs)) u s)
-      (λ a z q. segment_sim two (traits (Ssa.bs_integer j)) (is_tests m) k a z c n w q s refl j m refl xs
-      (λ bs u. gives_held two.o two.around two.here m two.dst (term (segment_value (record j { is_binary = false }) bs))
-      u s) (λ bs u. gives_held two.p two.around two.here m two.dst
-      (term (segment_value (record j { is_binary = false }) bs)) u s)
-      (λ bs e. gives_sim two (traits (Ssa.bs_integer j)) (is_tests m) k a z e n w q s refl m refl
-      (term (segment_value (record j { is_binary = false }) bs))))
-  does_sim (Ssa.bs_binary j) k as' m lv xs = collected_sim two (traits (Ssa.bs_binary j)) (is_tests m) k x y c n w r
-      (λ g. takes_segment two.o two.around two.here j m xs g s λ bs u. gives_held two.o two.around two.here m two.dst
-      (term (Tm.bits bs)) u (noting (cut (part_cuts two.around.uncounted two.dst)) s))
-      (λ g. takes_segment two.p two.around two.here j m xs g s λ bs u. gives_held two.p two.around two.here m two.dst
-      (term (Tm.bits bs)) u (noting (cut (part_cuts two.around.uncounted two.dst)) s))
-      (λ a z q. segment_sim two (traits (Ssa.bs_binary j)) (is_tests m) k a z c n w q s refl j m refl xs
-      (λ bs u. gives_held two.o two.around two.here m two.dst (term (Tm.bits bs)) u
+      (λ bs e. gives_sim two (K (Ssa.bs_integer j)) k n w s (calm two.mode (Ssa.bs_integer j) refl) a z e n w q s
+      (nowhere refl) refl two.mode refl (term (segment_value (record j { is_binary = false }) bs))))
+  does_sim (Ssa.bs_binary j) k as' lv xs = collected_sim two (K (Ssa.bs_binary j)) k n w s x y c n w r
+      (λ g. takes_segment two.o two.around two.here j two.mode xs g s λ bs u. gives_held two.o two.around two.here
+      two.mode two.dst (term (Tm.bits bs)) u (noting (cut (part_cuts two.around.uncounted two.dst)) s))
+      (λ g. takes_segment two.p two.around two.here j two.mode xs g s λ bs u. gives_held two.p two.around two.here
+      two.mode two.dst (term (Tm.bits bs)) u (noting (cut (part_cuts two.around.uncounted two.dst)) s))
+      (λ a z q. segment_sim two (K (Ssa.bs_binary j)) k n w s (calm two.mode (Ssa.bs_binary j) refl) a z c n w q s
+      (nowhere refl) j two.mode refl xs
+      (λ bs u. gives_held two.o two.around two.here two.mode two.dst (term (Tm.bits bs)) u
       (noting (cut (part_cuts two.around.uncounted two.dst)) s))
-      (λ bs u. gives_held two.p two.around two.here m two.dst (term (Tm.bits bs)) u
+      (λ bs u. gives_held two.p two.around two.here two.mode two.dst (term (Tm.bits bs)) u
       (noting (cut (part_cuts two.around.uncounted two.dst)) s))
-      (λ bs e. gives_sim two (traits (Ssa.bs_binary j)) (is_tests m) k a z e n w q
-      (noting (cut (part_cuts two.around.uncounted two.dst)) s) refl m refl (term (Tm.bits bs))))
-  does_sim (Ssa.bs_skip j) k as' m lv xs = segment_sim two (traits (Ssa.bs_skip j)) (is_tests m) k x y c n w r s refl j
-      m refl xs (λ bs u. asked two.o two.around two.here m true u s)
-      (λ bs u. asked two.p two.around two.here m true u s)
-      (λ bs e. asked_sim two (traits (Ssa.bs_skip j)) (is_tests m) k x y e n w r s m refl true refl refl)
-  does_sim Ssa.bs_done k as' m lv xs = at_sim two (traits Ssa.bs_done) (is_tests m) k x y c n w r s xs
-      (λ i. asked two.o two.around two.here m (eqb (length (rest_of i)) 0) (at x c n w) s)
-      (λ i. asked two.p two.around two.here m (eqb (length (rest_of i)) 0) (at y c n w) s)
-      (λ i. asked_sim two (traits Ssa.bs_done) (is_tests m) k x y c n w r s m refl (eqb (length (rest_of i)) 0) refl
-      refl)
-  does_sim (Ssa.bs_unit j) k as' m lv xs = at_sim two (traits (Ssa.bs_unit j)) (is_tests m) k x y c n w r s xs
-      (λ i. asked two.o two.around two.here m (eqb (length (rest_of i) % j) 0) (at x c n w) s)
-      (λ i. asked two.p two.around two.here m (eqb (length (rest_of i) % j) 0) (at y c n w) s)
-      (λ i. asked_sim two (traits (Ssa.bs_unit j)) (is_tests m) k x y c n w r s m refl (eqb (length (rest_of i) % j) 0)
-      refl refl)
-  does_sim Ssa.bs_tail k as' m lv xs = collected_sim two (traits Ssa.bs_tail) (is_tests m) k x y c n w r
+      (λ bs e. gives_sim two (K (Ssa.bs_binary j)) k n w s (calm two.mode (Ssa.bs_binary j) refl) a z e n w q
+      (noting (cut (part_cuts two.around.uncounted two.dst)) s) (to_note refl _) refl two.mode refl
+      (term (Tm.bits bs))))
+  does_sim (Ssa.bs_skip j) k as' lv xs = segment_sim two (K (Ssa.bs_skip j)) k n w s
+      (calm two.mode (Ssa.bs_skip j) refl) x y c n w r s (nowhere refl) j two.mode refl xs
+      (λ bs u. asked two.o two.around two.here two.mode true u s)
+      (λ bs u. asked two.p two.around two.here two.mode true u s)
+      (λ bs e. asked_sim two (K (Ssa.bs_skip j)) k n w s (calm two.mode (Ssa.bs_skip j) refl) x y e n w r s
+      (nowhere refl) two.mode refl true refl)
+  does_sim Ssa.bs_done k as' lv xs = at_sim two (K Ssa.bs_done) k n w s (calm two.mode Ssa.bs_done refl) x y c n w r s
+      (nowhere refl) xs
+      (λ i. asked two.o two.around two.here two.mode (eqb (length (rest_of i)) 0) (at x c n w) s)
+      (λ i. asked two.p two.around two.here two.mode (eqb (length (rest_of i)) 0) (at y c n w) s)
+      (λ i. asked_sim two (K Ssa.bs_done) k n w s (calm two.mode Ssa.bs_done refl) x y c n w r s (nowhere refl) two.mode
+      refl (eqb (length (rest_of i)) 0) refl)
+  does_sim (Ssa.bs_unit j) k as' lv xs = at_sim two (K (Ssa.bs_unit j)) k n w s (calm two.mode (Ssa.bs_unit j) refl) x y
+      c n w r s (nowhere refl) xs
+      (λ i. asked two.o two.around two.here two.mode (eqb (length (rest_of i) % j) 0) (at x c n w) s)
+      (λ i. asked two.p two.around two.here two.mode (eqb (length (rest_of i) % j) 0) (at y c n w) s)
+      (λ i. asked_sim two (K (Ssa.bs_unit j)) k n w s (calm two.mode (Ssa.bs_unit j) refl) x y c n w r s (nowhere refl)
+      two.mode refl (eqb (length (rest_of i) % j) 0) refl)
+  does_sim Ssa.bs_tail k as' lv xs = collected_sim two (K Ssa.bs_tail) k n w s x y c n w r
       (λ g. at_context two.o two.around two.here g xs λ i. put two.o two.around two.here two.dst
       (term (Tm.bits (rest_of i))) g (noting (cut (part_cuts two.around.uncounted two.dst)) s))
       (λ g. at_context two.p two.around two.here g xs λ i. put two.p two.around two.here two.dst
       (term (Tm.bits (rest_of i))) g (noting (cut (part_cuts two.around.uncounted two.dst)) s))
-      (λ a z q. at_sim two (traits Ssa.bs_tail) (is_tests m) k a z c n w q s xs
+      (λ a z q. at_sim two (K Ssa.bs_tail) k n w s (calm two.mode Ssa.bs_tail refl) a z c n w q s (nowhere refl) xs
       (λ i. put two.o two.around two.here two.dst (term (Tm.bits (rest_of i))) (at a c n w)
       (noting (cut (part_cuts two.around.uncounted two.dst)) s))
       (λ i. put two.p two.around two.here two.dst (term (Tm.bits (rest_of i))) (at z c n w)
       (noting (cut (part_cuts two.around.uncounted two.dst)) s))
-      (λ i. put_sim two (traits Ssa.bs_tail) (is_tests m) k refl (term (Tm.bits (rest_of i))) a z c n w q
-      (noting (cut (part_cuts two.around.uncounted two.dst)) s)))
-  does_sim Ssa.bs_position k as' m lv xs = collected_sim two (traits Ssa.bs_position) (is_tests m) k x y c n w r
+      (λ i. put_sim two (K Ssa.bs_tail) k n w s (calm two.mode Ssa.bs_tail refl) refl (term (Tm.bits (rest_of i))) a z c
+      n w q (noting (cut (part_cuts two.around.uncounted two.dst)) s) (to_note refl _)))
+  does_sim Ssa.bs_position k as' lv xs = collected_sim two (K Ssa.bs_position) k n w s x y c n w r
       (λ g. at_context two.o two.around two.here g xs λ i. put two.o two.around two.here two.dst (position i.at) g s)
       (λ g. at_context two.p two.around two.here g xs λ i. put two.p two.around two.here two.dst (position i.at) g s)
-      (λ a z q. at_sim two (traits Ssa.bs_position) (is_tests m) k a z c n w q s xs
-      (λ i. put two.o two.around two.here two.dst (position i.at) (at a c n w) s)
+      (λ a z q. at_sim two (K Ssa.bs_position) k n w s (calm two.mode Ssa.bs_position refl) a z c n w q s (nowhere refl)
+      xs (λ i. put two.o two.around two.here two.dst (position i.at) (at a c n w) s)
       (λ i. put two.p two.around two.here two.dst (position i.at) (at z c n w) s)
-      (λ i. put_sim two (traits Ssa.bs_position) (is_tests m) k refl (position i.at) a z c n w q s))
-  does_sim Ssa.bs_restore k as' m lv xs = restore_sim two (traits Ssa.bs_restore) (is_tests m) k x y c n w r s refl refl
-      xs
-  does_sim Ssa.try_start k as' m lv [] = open_sim two (traits Ssa.try_start) (is_tests m) k refl refl x y c n w r s m
-      refl two.dst refl
-  does_sim Ssa.try_start k as' m lv (u ∷ xs) = by_terms Ssa.try_start k m lv (u ∷ xs)
-  does_sim Ssa.try_end k as' m lv xs = close_sim two (traits Ssa.try_end) (is_tests m) k refl refl x y c n w r s as'
-  does_sim (Ssa.peek i) k as' m lv [] = peek_sim two (traits (Ssa.peek i)) (is_tests m) k refl refl refl x y c n w r m
-      refl two.dst refl s
-  does_sim (Ssa.peek i) k as' m lv (u ∷ xs) = by_terms (Ssa.peek i) k m lv (u ∷ xs)
-  does_sim Ssa.bind k as' m lv xs = bind_sim two (traits Ssa.bind) (is_tests m) k x y c n w r s refl refl xs
-  does_sim op k as' m lv xs = by_terms op k m lv xs
+      (λ i. put_sim two (K Ssa.bs_position) k n w s (calm two.mode Ssa.bs_position refl) refl (position i.at) a z c n w
+      q s (nowhere refl)))
+  does_sim Ssa.bs_restore k as' lv xs = restore_sim two (K Ssa.bs_restore) k n w s (calm two.mode Ssa.bs_restore refl) x
+      y c n w r s (nowhere refl) refl xs
+  does_sim Ssa.try_start k as' lv [] = open_sim two (K Ssa.try_start) k n w s refl refl refl refl x y c r two.mode refl refl
+      two.dst refl
+  does_sim Ssa.try_start k as' lv (u ∷ xs) = by_terms Ssa.try_start k lv (u ∷ xs)
+  does_sim Ssa.try_end k as' lv xs = close_sim two (K Ssa.try_end) k n w s refl refl refl refl x y c r as'
+  does_sim (Ssa.peek i) k as' lv [] = peek_sim two (K (Ssa.peek i)) k n w s refl refl refl
+      (record { opens = refl; closes = refl }) x y c w refl r two.mode refl two.dst refl
+  does_sim (Ssa.peek i) k as' lv (u ∷ xs) = by_terms (Ssa.peek i) k lv (u ∷ xs)
+  does_sim Ssa.bind k as' lv xs = bind_sim two (K Ssa.bind) k n w s (calm two.mode Ssa.bind refl) refl x y c r xs
+  does_sim op k as' lv xs = by_terms op k lv xs

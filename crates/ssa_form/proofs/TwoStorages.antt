@@ -1,5 +1,5 @@
 -- Two storages side by side: how they are related around one operation, and what has to be shown of them.
-use Rattle.std.proofs.Common.{◌≡◌, ◌⊎◌, inl, inr, ℕ, suc, List, [], ◌∷◌, length, Bool, true, false, not, ◌%◌, ◌&&◌, ◌||◌, leb, Option, Some, None, refl, sym, ap, subst, ◌∙◌, eqb, IsTrue, if◌then◌else◌, slice_get}
+use Rattle.std.proofs.Common.{◌≡◌, ◌⊎◌, inl, inr, ℕ, suc, List, [], ◌∷◌, length, Bool, true, false, not, ◌%◌, ◌&&◌, ◌||◌, leb, Option, Some, None, refl, sym, ap, subst, ◌∙◌, eqb, IsTrue, IsFalse, if◌then◌else◌, slice_get}
 use Rattle.erl_term.specs.Term as Tm
 use Rattle.erl_term.specs.Term.{Term, Class}
 use Rattle.erl_term.specs.Terms.{Values, terms, listed, value_at, only}
@@ -20,16 +20,14 @@ use Rattle.ssa_form.specs.Ssa.{Arg, var, lit, Op}
 use Rattle.ssa_form.specs.Checks.{check_holds}
 use Rattle.ssa_form.specs.Storage.{Held, unset, term, context, position, marker, Handler, Leaving, calls, ends_body, always_raises, Storage, Frame, After, next, choose, raise, finish, Mode, plain, tail, jump, tests, Around, go_on, when, if_some, outside}
 use Rattle.ssa_form.specs.Values.{terms_of, handed, raises_for_sure, puts_of, parts_of, is_tail, part_cuts}
-use Rattle.ssa_form.specs.SetFacts.{gives_nothing, is_peek, is_tests, is_try_start, unsets_registers}
+use Rattle.ssa_form.specs.SetFacts.{gives_nothing, is_peek, is_tests, is_try_start, unsets_registers, may_raise}
 use Rattle.ssa_form.specs.Operations.{put, collected, gives_held, asked, found, answers, leaving, follows, follows_by, ends_with, calls_by, leaving_of, local_does, remote_does, fun_does, send_does, raise_does, cons_does, map_does, option_held, key_does, element_does, cell_does, fun_made, start_does, with_context, at_context, took, takes_segment, restore_does, open_does, close_does, created, seen, seen_or, looks, peek_does, take_does, skip_does, waited, waits_for, wait_does, bind_does, use_does, on_terms, does}
+use Rattle.ssa_form.proofs.Moves.{at, Came, Went}
 
 -- two answers of the rules of storages: where the first is no broken rule, the second isn't, and they are related
 pub data Opt {A B : Type 0} (R : A → B → Type 0) : Option A → Option B → Type 0 where
   opt_none : (y : Option B) → Opt R None y
   opt_some : (a : A) (b : B) → R a b → Opt R (Some a) (Some b)
-
-abbrev pub at : {X : Type 0} → X → List MatchContext → ℕ → Option Message → Frame X
-at x c n w = record { store = x; contexts = c; save = n; window = w }
 
 -- whether a message is looked at
 abbrev pub lk : Option Message → Bool
@@ -57,19 +55,26 @@ abbrev pub is_take : Op → Bool
 is_take Ssa.take_message = true
 is_take _ = false
 
+abbrev pub is_back : Op → Bool
+is_back Ssa.reset = true
+is_back Ssa.use_marker = true
+is_back _ = false
+
 -- whether an operation writes its variable
 abbrev pub writes : Op → Bool
 writes op = not (gives_nothing op || is_try_start op)
 
--- Two storages, the setting in which both run, and what holds between them around one operation with this destination:
--- before it, told whether a message is looked at; where it unset the X registers; after it, told whether it gave its
--- variable a value and whether a message is looked at; and where it raised. ok: how it may let control leave.
+-- Two storages, the setting in which both run, and what holds between them around one operation with this destination
+-- that its block takes so: before it, told whether a message is looked at; where it unset the X registers; after it,
+-- told whether it gave its variable a value and whether a message is looked at; and where it raised. ok: how it may let
+-- control leave.
 pub record Two (S T : Type 0) : Type 1 where
   pub o : Storage S
   pub p : Storage T
   pub around : Around
   pub here : Here
   pub ok : Leaving → Type 0
+  pub mode : Mode
   pub dst : Option ℕ
   pub before : Bool → S → T → Type 0
   pub cleared : S → T → Type 0
@@ -77,7 +82,7 @@ pub record Two (S T : Type 0) : Type 1 where
   pub rose : S → T → Type 0
 
 -- whether an operation writes its variable, unsets the X registers, is a look, takes the message, opens or closes a
--- handler
+-- handler, moves the save place back, may raise, and is tested
 pub record Traits : Type 0 where
   pub writes : Bool
   pub clears : Bool
@@ -85,16 +90,33 @@ pub record Traits : Type 0 where
   pub takes : Bool
   pub opens : Bool
   pub closes : Bool
+  pub back : Bool
+  pub raises : Bool
+  pub tested : Bool
 
-abbrev pub traits : Op → Traits
-traits op = record {
+abbrev pub traits : Mode → Op → Traits
+traits m op = record {
   writes = writes op;
   clears = unsets_registers op;
   looks = is_peek op;
   takes = is_take op;
   opens = is_try_start op;
   closes = is_try_end op;
+  back = is_back op;
+  raises = may_raise m op;
+  tested = is_tests m;
 }
+
+-- it is no handler's beginning or end
+pub record Steady (f : Traits) : Type 0 where
+  pub opens : IsFalse f.opens
+  pub closes : IsFalse f.closes
+
+-- nor a look, nor does it take the message
+pub record Calm (f : Traits) : Type 0 where
+  pub steady : Steady f
+  pub looks : IsFalse f.looks
+  pub takes : IsFalse f.takes
 
 -- where a body ends, nothing is looked at afterwards
 abbrev pub left_so : {S T : Type 0} → (S → T → Type 0) → Leaving → S → T → Type 0
@@ -110,29 +132,35 @@ pub record Keeps {S T : Type 0} (two : Two S T) (f : Traits) : Type 0 where
       → Opt (left_so (two.before false) l) (two.o.leaves l x) (two.p.leaves l y)
   pub forgets : IsTrue f.clears → (w : Bool) (x : S) (y : T) → two.before w x y
       → two.cleared (two.o.forgets x) (two.p.forgets y)
-  pub puts : (w : Bool) (v : ℕ) (h : Held) → two.dst ≡ Some v → (x : S) (y : T) → two.before w x y
+  pub puts : IsTrue f.writes → (w : Bool) (v : ℕ) (h : Held) → two.dst ≡ Some v → (x : S) (y : T) → two.before w x y
       → Opt (two.done true w) (two.o.write w v h x) (two.p.write w v h y)
-  pub puts_cleared : (v : ℕ) (h : Held) → two.dst ≡ Some v → (x : S) (y : T) → two.cleared x y
+  pub puts_cleared : IsTrue f.writes → (v : ℕ) (h : Held) → two.dst ≡ Some v → (x : S) (y : T) → two.cleared x y
       → Opt (two.done true f.looks) (two.o.write f.looks v h x) (two.p.write f.looks v h y)
-  pub drops : (w : Bool) → two.dst ≡ None → (x : S) (y : T) → two.before w x y → two.done true w x y
-  pub drops_cleared : two.dst ≡ None → (x : S) (y : T) → two.cleared x y → two.done true f.looks x y
-  pub stays : (w : Bool) (x : S) (y : T) → two.before w x y → two.done false (w && not f.takes) x y
-  pub stays_cleared : (x : S) (y : T) → two.cleared x y → two.done false false x y
+  pub drops : IsTrue f.writes → (w : Bool) → two.dst ≡ None → (x : S) (y : T) → two.before w x y
+      → two.done true w x y
+  pub drops_cleared : IsTrue f.writes → two.dst ≡ None → (x : S) (y : T) → two.cleared x y → two.done true f.looks x y
+  pub stays : Steady f → (w : Bool) (x : S) (y : T) → two.before w x y → two.done false (w && not f.takes) x y
+  pub stays_cleared : Steady f → (x : S) (y : T) → two.cleared x y → two.done false false x y
   pub rises : (w : Bool) (x : S) (y : T) → two.before w x y → two.rose x y
   pub rises_cleared : (x : S) (y : T) → two.cleared x y → two.rose x y
-  pub opens : IsTrue f.opens → (h : Handler) → two.dst ≡ Some h.tag → (x : S) (y : T) → two.before false x y
-      → Opt (two.done false false) (two.o.opens h x) (two.p.opens h y)
+  pub opens : IsTrue f.opens → (h : Handler) → two.dst ≡ Some h.tag → two.mode ≡ tests h.landing → (x : S) (y : T)
+      → two.before false x y → Opt (two.done false false) (two.o.opens h x) (two.p.opens h y)
   pub closes : IsTrue f.closes → (v : ℕ) (x : S) (y : T) → two.before false x y
       → Opt (two.done false false) (two.o.closes v x) (two.p.closes v y)
 
--- what comes of an operation on both sides: the same, with stores that are related, or a broken rule on the first side
-module _ {S T : Type 0} (two : Two S T) (wr ts : Bool) where
+-- What comes of an operation on both sides: the same, with stores that are related, or a broken rule on the first side.
+-- Beside the stores it says what the run did to the rest, from this save place, message that is looked at and state on.
+module _ {S T : Type 0} (two : Two S T) (kind : Traits) (i : ℕ) (v : Option Message) (u : State) where
   pub data Sim : After S → After T → Type 0 where
-    sim_on : (x : S) (y : T) (c : List MatchContext) (n : ℕ) (w : Option Message) (s : State)
-        → two.done wr (lk w) x y → Sim (next (at x c n w) s) (next (at y c n w) s)
-    sim_pick : (b : Bool) → true ≡ ts → (x : S) (y : T) (c : List MatchContext) (n : ℕ) (w : Option Message) (s : State)
-        → two.done (wr && b) (lk w) x y → Sim (choose b (at x c n w) s) (choose b (at y c n w) s)
-    sim_up : (k : Class) (r : Term) (x : S) (y : T) (c : List MatchContext) (n : ℕ) (w : Option Message) (s : State)
-        → two.rose x y → Sim (raise k r (at x c n w) s) (raise k r (at y c n w) s)
-    sim_over : (s : State) (q : Outcome Term) → Sim (finish s q) (finish s q)
+    sim_on : IsFalse kind.looks → IsFalse kind.opens → (x : S) (y : T) (c : List MatchContext) (n : ℕ) (w : Option Message) (s : State)
+        → two.done kind.writes (lk w) x y → Went two.around two.here kind.looks kind.back i v u n w s
+        → Sim (next (at x c n w) s) (next (at y c n w) s)
+    sim_pick : (b : Bool) → IsTrue kind.tested → IsFalse kind.closes → (b ≡ false → IsFalse kind.opens) → (x : S)
+        (y : T) (c : List MatchContext) (n : ℕ) (w : Option Message) (s : State) → two.done (kind.writes && b) (lk w) x y
+        → Went two.around two.here kind.looks kind.back i v u n w s
+        → Sim (choose b (at x c n w) s) (choose b (at y c n w) s)
+    sim_up : IsTrue kind.raises → (k : Class) (r : Term) (x : S) (y : T) (c : List MatchContext) (n : ℕ)
+        (w : Option Message) (s : State) → two.rose x y → Came two.around two.here u s
+        → Sim (raise k r (at x c n w) s) (raise k r (at y c n w) s)
+    sim_over : (s : State) (q : Outcome Term) → Came two.around two.here u s → Sim (finish s q) (finish s q)
     sim_bad : (z : After T) → Sim After.bad z
