@@ -1,31 +1,16 @@
 -- Where an operation leads is lawful, wherever the variables' values are kept.
-use Rattle.std.proofs.Common.{ℕ, List, [], ◌∷◌, length, Bool, true, false, ◌%◌, ◌&&◌, leb, Option, Some, None, eqb, if◌then◌else◌, slice_get}
-use Rattle.erl_term.specs.Term as T
-use Rattle.erl_term.specs.Term.{Term, Class}
-use Rattle.erl_term.specs.Terms.{Values, terms, listed, value_at, only}
-use Rattle.erl_term.specs.Segments.{Shape, segment_value}
-use Rattle.bif_table.specs.BuiltinAnswer.{Answer, value, raised, answer}
-use Rattle.bif_table.specs.Builtins.{arity_of, is_guard, is_collecting}
-use Rattle.world_model.specs.World as World
-use Rattle.world_model.specs.World.{Reply, Message, Delay, forever, millis}
-use Rattle.world_model.specs.Run.{State, Outcome, gives, raises, waits, spent, M, ◌>>=◌, ask, answered, noting, marked, began, looked, cut}
-use Rattle.world_model.specs.Meaning.{single}
-use Rattle.world_model.specs.MapUpdate.{put_all}
-use Rattle.world_model.specs.Receive.{Timeout, now, in', wrong, timeout_of}
-use Rattle.world_model.specs.RemoteCalls.{takes, raise_again}
+use Rattle.std.proofs.Common.{ℕ, List, Bool, true, false, Option, Some, None, eqb}
+use Rattle.erl_term.specs.Terms.{Values, only}
+use Rattle.world_model.specs.World.{Message}
+use Rattle.world_model.specs.Run.{State, Outcome, gives, raises, waits, spent}
 use Rattle.step_machine.specs.Bodies.{Here}
-use Rattle.step_machine.specs.Frames.{MatchContext, rest_of}
 use Rattle.pass_contract.specs.Lawful.{Lawful, IsLawful}
-use Rattle.pass_contract.proofs.LawfulSteps.{lawful_twice, noting_lawful, answered_lawful, taken_lawful}
-use Rattle.pass_contract.proofs.LawfulMeanings.{Goes, remote_goes, put_all_goes, again_goes, trace_goes, send_goes, call_goes, apply_goes}
-use Rattle.ssa_form.specs.Ssa as Ssa
-use Rattle.ssa_form.specs.Ssa.{Arg, var, lit, Op}
-use Rattle.ssa_form.specs.Checks.{check_holds}
-use Rattle.ssa_form.specs.Storage.{Held, unset, term, context, position, marker, Leaving, calls, ends_body, Storage, Frame, After, next, choose, raise, finish, Mode, plain, tail, jump, tests, Around, in_window, go_on, when, if_some, outside, inside, kept}
-use Rattle.ssa_form.specs.Values.{terms_of, handed, raises_for_sure, puts_of, parts_of, is_tail, part_cuts}
-use Rattle.ssa_form.specs.Operations.{put, collected, forgotten, gives_held, asked, found, answers, leaving, follows, follows_by, ends_with, calls_by, leaving_of, local_does, remote_does, fun_does, send_does, raise_does, cons_does, map_does, option_held, key_does, element_does, cell_does, fun_made, start_does, with_context, at_context, took, takes_segment, restore_does, open_does, close_does, created, seen, seen_or, looks, peek_does, take_does, skip_does, waited, waits_for, wait_does, bind_does, use_does, on_terms, does}
+use Rattle.pass_contract.proofs.LawfulSteps.{lawful_twice}
+use Rattle.ssa_form.specs.Ssa.{Arg, Op}
+use Rattle.ssa_form.specs.Storage.{Held, term, Leaving, Storage, Frame, After, next, choose, raise, finish, Mode, Around, in_window, go_on, when, if_some, outside, kept}
+use Rattle.ssa_form.specs.Operations.{put, leaving, follows, does}
 use Rattle.ssa_form.proofs.Moves.{came, came_lawful}
-use Rattle.ssa_form.proofs.TwoStorages.{Traits, traits, Sim, sim_on, sim_pick, sim_up, sim_over, sim_bad}
+use Rattle.ssa_form.proofs.TwoStorages.{traits, Sim, sim_on, sim_pick, sim_up, sim_over, sim_bad}
 use Rattle.ssa_form.proofs.OneStorage.{One, Leaves, beside, one_does}
 
 module _ {S : Type 0} (o : Storage S) (around : Around) (here : Here) (lawful : IsLawful here.enter) (s0 : State) where

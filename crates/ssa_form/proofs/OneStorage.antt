@@ -3,7 +3,7 @@ use Rattle.std.proofs.Common.{◌≡◌, ℕ, List, Bool, true, false, Option, S
 use Rattle.world_model.specs.Run.{State}
 use Rattle.step_machine.specs.Bodies.{Here}
 use Rattle.ssa_form.specs.Ssa.{Arg, Op}
-use Rattle.ssa_form.specs.Storage.{Held, Handler, Leaving, calls, ends_body, always_raises, Storage, Frame, After, Mode, tests, Around}
+use Rattle.ssa_form.specs.Storage.{Held, Handler, Leaving, calls, ends_body, always_raises, Storage, Frame, Mode, tests, Around}
 use Rattle.ssa_form.specs.Operations.{does}
 use Rattle.ssa_form.proofs.TwoStorages.{Opt, opt_none, opt_some, Two, Traits, traits, Steady, left_so, Keeps, Sim}
 use Rattle.ssa_form.proofs.TwoDoes.{does_sim}

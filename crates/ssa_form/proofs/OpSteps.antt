@@ -1,32 +1,21 @@
 -- What every operation leaves: the handlers that the flow tells, and no higher rank, where it breaks no cycle. It is
 -- what the walk over operations tells of a storage that keeps track of handlers.
-use Rattle.std.proofs.Common.{◌≡◌, ◌≤◌, ◌<◌, ℕ, suc, ◌+◌, List, [], ◌∷◌, length, drop, Bool, true, false, not, ◌&&◌, ◌||◌, Option, Some, None, refl, sym, ap, ◌∙◌, arith, eqb, IsTrue, IsFalse, if◌then◌else◌, slice_get}
-use Rattle.erl_term.specs.Term as T
-use Rattle.erl_term.specs.Term.{Term, Class}
-use Rattle.erl_term.specs.Terms.{Values, terms}
-use Rattle.erl_term.specs.Segments.{segment_value}
-use Rattle.bif_table.specs.BuiltinAnswer.{Answer, value, raised, answer}
-use Rattle.bif_table.specs.Builtins.{Bif, arity_of, is_guard, is_collecting}
-use Rattle.world_model.specs.World as W
-use Rattle.world_model.specs.World.{Reply, Message}
-use Rattle.world_model.specs.Run.{State, answered, noting, cut}
+use Rattle.std.proofs.Common.{◌≡◌, ◌≤◌, ℕ, List, ◌∷◌, drop, Bool, true, false, Option, Some, None, refl, sym, ap, ◌∙◌, IsTrue, IsFalse}
+use Rattle.world_model.specs.Run.{State}
 use Rattle.step_machine.specs.EntryBound.{Lowers}
-use Rattle.step_machine.specs.Frames.{rest_of}
 use Rattle.ssa_form.specs.Ssa as Ssa
 use Rattle.ssa_form.specs.Ssa.{Arg, var, lit, Op}
-use Rattle.ssa_form.specs.Checks.{check_holds}
-use Rattle.ssa_form.specs.Storage.{Held, unset, term, context, position, marker, Handler, Frame, After, next, choose, raise, finish, Mode, plain, tail, jump, tests, go_on, if_some}
-use Rattle.ssa_form.specs.Values.{terms_of, parts_of, part_cuts}
-use Rattle.ssa_form.specs.SetFacts.{is_tests, may_raise, never_raises, is_peek, breaks_cycle}
+use Rattle.ssa_form.specs.Storage.{Held, Handler, Frame, After, next, choose, raise, finish, Mode, plain, tail, jump, tests}
+use Rattle.ssa_form.specs.SetFacts.{is_tests, may_raise, is_peek, breaks_cycle}
 use Rattle.ssa_form.specs.Flow.{after_op, opened}
-use Rattle.ssa_form.specs.Operations.{put, collected, gives_held, at_context, answers, created, open_does, close_does, seen, seen_or, looks, peek_does, use_does, on_terms, does}
+use Rattle.ssa_form.specs.Operations.{does}
 use Rattle.step_machine.specs.Bodies.{Here}
 use Rattle.ssa_form.specs.Storage.{Storage, Around}
 use Rattle.ssa_form.specs.SetFacts.{is_try_start}
 use Rattle.ssa_form.proofs.Rank.{Lower, AtMost, rank, Fits}
 use Rattle.ssa_form.proofs.OpenHandlers.{Tracks}
 use Rattle.ssa_form.proofs.Moves.{came, came_low, went_stands, went_falls, went_lower}
-use Rattle.ssa_form.proofs.TwoStorages.{is_back, is_try_end, writes, Traits, traits, Steady, Sim, sim_on, sim_pick, sim_up, sim_over, sim_bad}
+use Rattle.ssa_form.proofs.TwoStorages.{is_back, is_try_end, writes, traits, Sim, sim_on, sim_pick, sim_up, sim_over, sim_bad}
 use Rattle.ssa_form.proofs.OneStorage.{One, Leaves, beside, one_does}
 
 abbrev pub picked_handlers : Bool → Op → Option ℕ → ℕ → List Handler → List Handler

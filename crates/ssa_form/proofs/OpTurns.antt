@@ -1,28 +1,14 @@
 -- What a quiet part of a run leaves: the handlers as they were, and no higher rank.
-use Rattle.std.proofs.lemmas.Option.{slice_get_within}
-use Rattle.std.proofs.Common.{◌≡◌, ◌≤◌, ◌<◌, ℕ, zero, suc, ◌+◌, ◌-◌, List, [], ◌∷◌, length, Bool, true, false, not, ◌&&◌, ◌||◌, leb, Option, Some, None, refl, sym, ap, ◌∙◌, arith, eqb, IsTrue, IsFalse, if◌then◌else◌, slice_get}
-use Rattle.erl_term.specs.Term as T
-use Rattle.erl_term.specs.Term.{Term, Class}
-use Rattle.erl_term.specs.Terms.{Values, listed, only, value_at}
-use Rattle.erl_term.specs.Segments.{Shape}
-use Rattle.bif_table.specs.BuiltinAnswer.{Answer, value, raised}
+use Rattle.std.proofs.Common.{◌≡◌, ◌≤◌, ℕ, suc, List, ◌∷◌, length, Bool, true, false, ◌&&◌, Option, Some, None, refl, sym, ap, ◌∙◌, arith}
 use Rattle.world_model.specs.World as W
 use Rattle.world_model.specs.World.{Reply, Message, Delay, forever, millis}
-use Rattle.world_model.specs.Run.{State, Outcome, gives, raises, waits, spent, M, ◌>>=◌, going_on, ask, ask_from, answered}
-use Rattle.world_model.specs.Meaning.{single}
-use Rattle.world_model.specs.MapUpdate.{put_all}
-use Rattle.world_model.specs.RemoteCalls.{takes, raise_again}
-use Rattle.world_model.specs.Receive.{Timeout, now, in', wrong, timeout_of, without}
+use Rattle.world_model.specs.Run.{State, answered}
 use Rattle.step_machine.specs.Bodies.{Here}
-use Rattle.step_machine.specs.EntryBound.{Lowers}
-use Rattle.step_machine.specs.Frames.{MatchContext}
-use Rattle.ssa_form.specs.Storage.{Held, term, context, position, marker, Handler, Leaving, calls, ends_body, Storage, Frame, After, next, choose, raise, finish, Mode, plain, tail, jump, tests, Around, go_on, when, if_some, outside, inside, kept, in_window}
-use Rattle.ssa_form.specs.Values.{handed, raises_for_sure, puts_of, is_tail}
-use Rattle.ssa_form.specs.SetFacts.{is_tests}
-use Rattle.ssa_form.specs.Operations.{put, collected, forgotten, gives_held, asked, found, answers, leaving, follows, follows_by, ends_with, calls_by, leaving_of, local_does, remote_does, fun_does, send_does, raise_does, cons_does, map_does, option_held, key_does, element_does, cell_does, fun_made, start_does, with_context, at_context, took, takes_segment, restore_does, take_does, skip_does, waited, waits_for, wait_does, bind_does}
-use Rattle.ssa_form.proofs.Rank.{by_left, by_replies, by_mailbox, by_ahead, AtMost, lower, same, most_twice, closed, rank, Fits}
-use Rattle.ssa_form.proofs.OpenHandlers.{Tracks, some_is}
-use Rattle.ssa_form.proofs.Spending.{Uses, entry, reply, nothing, Spends, uses_low, bind_spends, ask_spends, give_spends, send_spends, remote_spends, put_all_stays, raise_again_stays, call_spends, applied_spends}
+use Rattle.ssa_form.specs.Storage.{Held, Handler, Storage, Frame, After, next, Around, when, if_some, outside, kept, in_window}
+use Rattle.ssa_form.specs.Operations.{put}
+use Rattle.ssa_form.proofs.Rank.{AtMost, same, most_twice, rank, Fits}
+use Rattle.ssa_form.proofs.OpenHandlers.{Tracks}
+use Rattle.ssa_form.proofs.Spending.{Uses, reply, uses_low}
 use Rattle.ssa_form.proofs.Moves.{uses_most}
 
 pub record Eases {S : Type 0} (open_in : S → List Handler) (f : Frame S) (s : State) (g : Frame S)

@@ -1,6 +1,6 @@
 -- Two runs of a well-formed body whose variables are alike where the way has set them: they end alike. Each of the two is
 -- a run that the other follows, by the induction over runs of two storages.
-use Rattle.std.proofs.Common.{◌≡◌, ◌⊎◌, inl, inr, ⊎_elim, ℕ, suc, List, [], ◌∷◌, ◌++◌, length, append_assoc, Contains, Bool, true, false, ◌&&◌, ◌||◌, Option, Some, None, refl, sym, ap, subst, ◌∙◌, arith, eqb, IsTrue, IsFalse, if◌then◌else◌}
+use Rattle.std.proofs.Common.{◌≡◌, ⊎_elim, ℕ, suc, List, [], ◌∷◌, ◌++◌, length, append_assoc, Contains, Bool, true, false, ◌&&◌, Option, Some, None, refl, sym, ap, subst, ◌∙◌, arith, eqb, IsTrue, IsFalse, if◌then◌else◌}
 use Rattle.std.proofs.lemmas.Bool.{eq-eqb}
 use Rattle.erl_base.specs.Lists.{among}
 use Rattle.erl_term.specs.Term.{Term, Class}
@@ -10,7 +10,7 @@ use Rattle.step_machine.specs.Bodies.{Here}
 use Rattle.step_machine.specs.Frames.{MatchContext}
 use Rattle.ssa_form.specs.Ssa as Ssa
 use Rattle.ssa_form.specs.Ssa.{Arg, Op, Set, Last, br, succeeded, switch, ret, Phi, Block, Body, block_at}
-use Rattle.ssa_form.specs.Storage.{Held, Handler, ends_body, Frame, Ended, unfinished, Mode, Around}
+use Rattle.ssa_form.specs.Storage.{Held, Handler, ends_body, Frame, Ended, Around}
 use Rattle.ssa_form.specs.SetFacts.{arg_vars, given_vars, all_among, none_among, is_try_start}
 use Rattle.ssa_form.specs.Flow.{point, set_at, last_in, last_at, last_of, targets, phis_at, phi_vars, edge_vars, phi_reads, along_edge, Way, goes, begins, Step, leads, succeeds, fails, raises}
 use Rattle.ssa_form.specs.Liveness.{set_vars, end_vars, last_vars, value_vars}
@@ -22,13 +22,13 @@ use Rattle.ssa_form.specs.SsaRun.{Raised, Vars, in_vars, is_landing, is_catch_en
 use Rattle.ssa_form.proofs.OpenHandlers.{some_is, none_is}
 use Rattle.ssa_form.proofs.OpTurns.{and_first}
 use Rattle.ssa_form.proofs.BlockSteps.{and_second, lands_op}
-use Rattle.ssa_form.proofs.ChainSteps.{Tested, From, all_from, tail_from, head_there}
-use Rattle.ssa_form.proofs.VarLists.{or_true, left_true, right_true, among_append, all_first, all_second, none_first, none_second}
+use Rattle.ssa_form.proofs.ChainSteps.{From, all_from, tail_from}
+use Rattle.ssa_form.proofs.VarLists.{among_append, all_first, all_second, none_first, none_second}
 use Rattle.ssa_form.proofs.Moves.{at}
-use Rattle.ssa_form.proofs.TwoStorages.{Opt, opt_none, opt_some, lk, is_try_end, writes}
+use Rattle.ssa_form.proofs.TwoStorages.{Opt, opt_none, opt_some, lk, writes}
 use Rattle.ssa_form.proofs.TwoRuns.{Same, same_done, same_bad, same_unfinished, Out, out_bad, chain_sim, BlockPlan, BlockMatch, no_block, both_blocks, run_sim}
 use Rattle.ssa_form.proofs.TwoBlocks.{read_by, gives_back, LastPlan, last_sim, Puts, Closes, Goes, landed_sim, caught_sim, unlanded_sim, EntryPlan, entry_sim}
-use Rattle.ssa_form.proofs.TwinChains.{Alike, Meet, Did, wrote_in, puts_did, drops_did, next_meet, held_alike, Stand, long, Chose, Rose, AtLast, stands, plan}
+use Rattle.ssa_form.proofs.TwinChains.{Alike, Meet, wrote_in, puts_did, drops_did, held_alike, Stand, long, Chose, Rose, AtLast, stands, plan}
 
 -- what was open where a block is entered, by a raise too
 abbrev pub Opened : Option Raised → List Handler → List Handler → Type 0

@@ -18,7 +18,7 @@ use Rattle.ssa_form.specs.SsaRun.{Raised, reads_tag, is_landing, is_catch_end, n
 use Rattle.ssa_form.proofs.Turns.{here_in, choice_in, picked_in}
 use Rattle.ssa_form.proofs.Moves.{at}
 use Rattle.ssa_form.proofs.TwoStorages.{Opt, opt_none, opt_some, lk}
-use Rattle.ssa_form.proofs.TwoRuns.{Same, same_done, same_bad, Acted, acted, acted_bad, Out, out_up, out_over, out_bad}
+use Rattle.ssa_form.proofs.TwoRuns.{Same, same_done, same_bad, Acted, acted, acted_bad, Out, out_over, out_bad}
 
 -- the operand that a last reads
 abbrev pub read_by : Last → Option Arg

@@ -1,28 +1,22 @@
 -- One induction over all operations, for two storages: where the parts of the storages keep these relations, every
 -- operation does, as long as the first one breaks no rule; and what it does beside its values is one of the moves.
-use Rattle.std.proofs.Common.{◌≡◌, ◌⊎◌, inl, inr, ℕ, suc, List, [], ◌∷◌, length, Bool, true, false, not, ◌%◌, ◌&&◌, ◌||◌, leb, Option, Some, None, refl, sym, ap, subst, ◌∙◌, eqb, IsTrue, IsFalse, if◌then◌else◌, slice_get}
+use Rattle.std.proofs.Common.{◌≡◌, inl, inr, ℕ, List, [], ◌∷◌, length, Bool, true, false, not, ◌%◌, ◌&&◌, ◌||◌, Option, Some, None, refl, eqb, IsTrue, if◌then◌else◌}
 use Rattle.erl_term.specs.Term as Tm
 use Rattle.erl_term.specs.Term.{Term, Class}
-use Rattle.erl_term.specs.Terms.{Values, terms, listed, value_at, only}
-use Rattle.erl_term.specs.Segments.{Shape, taken_size, segment_value}
+use Rattle.erl_term.specs.Terms.{Values, terms}
+use Rattle.erl_term.specs.Segments.{Shape, segment_value}
 use Rattle.bif_table.specs.BuiltinAnswer.{Answer, value, raised, answer}
 use Rattle.bif_table.specs.Builtins.{Bif, arity_of, is_guard, is_collecting}
-use Rattle.world_model.specs.World as World
-use Rattle.world_model.specs.World.{Reply, Message, Delay, forever, millis}
-use Rattle.world_model.specs.Run.{State, Outcome, gives, raises, waits, spent, M, ◌>>=◌, ask, answered, noting, cut}
-use Rattle.world_model.specs.Meaning.{single}
-use Rattle.world_model.specs.MapUpdate.{put_all}
-use Rattle.world_model.specs.Receive.{Timeout, now, in', wrong, timeout_of, new_or}
-use Rattle.world_model.specs.RemoteCalls.{takes, call_terms, apply_term, raise_again}
-use Rattle.step_machine.specs.Bodies.{Here, callees}
+use Rattle.world_model.specs.World.{Message}
+use Rattle.world_model.specs.Run.{State, noting, cut}
 use Rattle.step_machine.specs.Frames.{MatchContext, rest_of}
 use Rattle.ssa_form.specs.Ssa as Ssa
 use Rattle.ssa_form.specs.Ssa.{Arg, var, lit, Op}
 use Rattle.ssa_form.specs.Checks.{check_holds}
-use Rattle.ssa_form.specs.Storage.{Held, unset, term, context, position, marker, Handler, Leaving, calls, ends_body, always_raises, Storage, Frame, After, next, choose, raise, finish, Mode, plain, tail, jump, tests, Around, go_on, when, if_some, outside}
-use Rattle.ssa_form.specs.Values.{terms_of, handed, raises_for_sure, puts_of, parts_of, is_tail, part_cuts}
-use Rattle.ssa_form.specs.SetFacts.{gives_nothing, is_peek, is_tests, is_try_start, unsets_registers, never_raises}
-use Rattle.ssa_form.specs.Operations.{put, collected, gives_held, asked, found, answers, leaving, follows, follows_by, ends_with, calls_by, leaving_of, local_does, remote_does, fun_does, send_does, raise_does, cons_does, map_does, option_held, key_does, element_does, cell_does, fun_made, start_does, with_context, at_context, took, takes_segment, restore_does, open_does, close_does, created, seen, seen_or, looks, peek_does, take_does, skip_does, waited, waits_for, wait_does, bind_does, use_does, on_terms, does}
+use Rattle.ssa_form.specs.Storage.{Held, unset, term, context, position, marker, Leaving, calls, After, Mode, if_some}
+use Rattle.ssa_form.specs.Values.{terms_of, parts_of, part_cuts}
+use Rattle.ssa_form.specs.SetFacts.{is_peek, is_try_start, never_raises}
+use Rattle.ssa_form.specs.Operations.{put, collected, gives_held, asked, answers, cons_does, map_does, fun_made, start_does, at_context, takes_segment, created, on_terms, does}
 use Rattle.ssa_form.proofs.Moves.{at, as_it_was, nowhere, to_note}
 use Rattle.ssa_form.proofs.Spending.{answers_value}
 use Rattle.ssa_form.proofs.TwoStorages.{lk, leaves_by, is_try_end, is_take, Two, Traits, traits, Calm, Keeps, Sim, sim_bad}

@@ -1,30 +1,21 @@
 -- The rules that operations are made of, on two storages: what one does the other does. Conditions, values and calls.
-use Rattle.std.proofs.Common.{◌≡◌, ◌⊎◌, inl, inr, ℕ, suc, List, [], ◌∷◌, length, Bool, true, false, not, ◌%◌, ◌&&◌, ◌||◌, leb, Option, Some, None, refl, sym, ap, subst, ◌∙◌, eqb, IsTrue, IsFalse, if◌then◌else◌, slice_get}
-use Rattle.erl_term.specs.Term as Tm
+use Rattle.std.proofs.Common.{◌≡◌, ℕ, List, [], ◌∷◌, length, Bool, true, false, not, ◌&&◌, Option, Some, None, refl, sym, ap, subst, ◌∙◌, eqb, IsTrue, IsFalse, slice_get}
 use Rattle.erl_term.specs.Term.{Term, Class}
-use Rattle.erl_term.specs.Terms.{Values, terms, listed, value_at, only}
-use Rattle.erl_term.specs.Segments.{Shape, taken_size, segment_value}
-use Rattle.bif_table.specs.BuiltinAnswer.{Answer, value, raised, answer}
-use Rattle.bif_table.specs.Builtins.{arity_of, is_guard, is_collecting}
+use Rattle.erl_term.specs.Terms.{Values, only}
+use Rattle.bif_table.specs.BuiltinAnswer.{Answer, value, raised}
 use Rattle.world_model.specs.World as World
 use Rattle.world_model.specs.World.{Reply, Message, Delay, forever, millis}
-use Rattle.world_model.specs.Run.{State, Outcome, gives, raises, waits, spent, M, ◌>>=◌, ask, ask_from, going_on, answered, noting, cut}
+use Rattle.world_model.specs.Run.{State, Outcome, gives, raises, waits, spent, M, ◌>>=◌, ask, ask_from, going_on}
 use Rattle.world_model.specs.Meaning.{single}
-use Rattle.world_model.specs.MapUpdate.{put_all}
-use Rattle.world_model.specs.Receive.{Timeout, now, in', wrong, timeout_of, new_or}
-use Rattle.world_model.specs.RemoteCalls.{takes, call_terms, apply_term, raise_again}
+use Rattle.world_model.specs.RemoteCalls.{takes, call_terms, apply_term}
 use Rattle.step_machine.specs.Bodies.{Here, callees}
-use Rattle.step_machine.specs.Frames.{MatchContext, rest_of}
-use Rattle.ssa_form.specs.Ssa as Ssa
-use Rattle.ssa_form.specs.Ssa.{Arg, var, lit, Op}
-use Rattle.ssa_form.specs.Checks.{check_holds}
-use Rattle.ssa_form.specs.Storage.{Held, unset, term, context, position, marker, Handler, Leaving, calls, ends_body, always_raises, Storage, Frame, After, next, choose, raise, finish, Mode, plain, tail, jump, tests, Around, go_on, when, if_some, outside}
-use Rattle.ssa_form.specs.Values.{terms_of, handed, raises_for_sure, puts_of, parts_of, is_tail, part_cuts}
-use Rattle.ssa_form.specs.SetFacts.{gives_nothing, is_peek, is_tests, is_try_start, unsets_registers}
-use Rattle.ssa_form.specs.Operations.{put, collected, gives_held, asked, found, answers, leaving, follows, follows_by, ends_with, calls_by, leaving_of, local_does, remote_does, fun_does, send_does, raise_does, cons_does, map_does, option_held, key_does, element_does, cell_does, fun_made, start_does, with_context, at_context, took, takes_segment, restore_does, open_does, close_does, created, seen, seen_or, looks, peek_does, take_does, skip_does, waited, waits_for, wait_does, bind_does, use_does, on_terms, does}
-use Rattle.ssa_form.proofs.Moves.{at, taking, passing, Meant, of_call, of_term, of_names, of_send, of_trace, Came, as_it_was, by_note, by_reply, by_meaning, by_taking, Went, nowhere, to_note, to_reply, to_meaning, to_message, to_new_message, to_taking, to_passing, to_place, came}
-use Rattle.ssa_form.proofs.Spending.{put_all_stays}
-use Rattle.ssa_form.proofs.TwoStorages.{Opt, opt_none, opt_some, lk, left_by, leaves_by, writes, Two, Traits, traits, Steady, Calm, left_so, Keeps, Sim, sim_on, sim_pick, sim_up, sim_over, sim_bad}
+use Rattle.step_machine.specs.Frames.{MatchContext}
+use Rattle.ssa_form.specs.Storage.{Held, term, Leaving, calls, ends_body, always_raises, Storage, Frame, After, next, choose, raise, Mode, plain, tail, jump, tests, Around, go_on, when, if_some, outside}
+use Rattle.ssa_form.specs.Values.{handed, raises_for_sure, is_tail}
+use Rattle.ssa_form.specs.SetFacts.{is_tests}
+use Rattle.ssa_form.specs.Operations.{put, collected, gives_held, asked, found, answers, leaving, follows, follows_by, ends_with, calls_by, leaving_of, local_does, remote_does, fun_does, send_does}
+use Rattle.ssa_form.proofs.Moves.{at, Meant, of_call, of_term, of_names, of_send, of_trace, Came, by_meaning, Went, to_meaning, came}
+use Rattle.ssa_form.proofs.TwoStorages.{Opt, opt_none, opt_some, lk, left_by, Two, Traits, Steady, Calm, left_so, Keeps, Sim, sim_on, sim_pick, sim_up, sim_over, sim_bad}
 
 module _ {S T : Type 0} (two : Two S T) (kind : Traits) (keeps : Keeps two kind) (n0 : ℕ) (w0 : Option Message)
     (s0 : State) where

@@ -1,30 +1,25 @@
 -- The rules of terms, bit strings, handlers, receives and markers, on two storages.
-use Rattle.std.proofs.Common.{◌≡◌, ◌⊎◌, inl, inr, ℕ, suc, List, [], ◌∷◌, length, Bool, true, false, not, ◌%◌, ◌&&◌, ◌||◌, leb, Option, Some, None, refl, sym, ap, subst, ◌∙◌, eqb, IsTrue, IsFalse, if◌then◌else◌, slice_get}
+use Rattle.std.proofs.Common.{◌≡◌, ℕ, suc, List, [], ◌∷◌, length, Bool, true, false, not, ◌&&◌, leb, Option, Some, None, refl, sym, ap, subst, IsTrue, IsFalse, slice_get}
 use Rattle.erl_term.specs.Term as Tm
 use Rattle.erl_term.specs.Term.{Term, Class}
-use Rattle.erl_term.specs.Terms.{Values, terms, listed, value_at, only}
-use Rattle.erl_term.specs.Segments.{Shape, taken_size, segment_value}
-use Rattle.bif_table.specs.BuiltinAnswer.{Answer, value, raised, answer}
-use Rattle.bif_table.specs.Builtins.{arity_of, is_guard, is_collecting}
+use Rattle.erl_term.specs.Terms.{Values, listed, value_at}
+use Rattle.erl_term.specs.Segments.{Shape, taken_size}
 use Rattle.world_model.specs.World as World
 use Rattle.world_model.specs.World.{Reply, Message, Delay, forever, millis}
-use Rattle.world_model.specs.Run.{State, Outcome, gives, raises, waits, spent, M, ◌>>=◌, ask, ask_from, going_on, answered, noting, cut}
-use Rattle.world_model.specs.Meaning.{single}
+use Rattle.world_model.specs.Run.{State, answered}
 use Rattle.world_model.specs.MapUpdate.{put_all}
 use Rattle.world_model.specs.Receive.{Timeout, now, in', wrong, timeout_of, new_or}
-use Rattle.world_model.specs.RemoteCalls.{takes, call_terms, apply_term, raise_again}
-use Rattle.step_machine.specs.Bodies.{Here, callees}
+use Rattle.world_model.specs.RemoteCalls.{raise_again}
+use Rattle.step_machine.specs.Bodies.{Here}
 use Rattle.step_machine.specs.Frames.{MatchContext, rest_of}
-use Rattle.ssa_form.specs.Ssa as Ssa
-use Rattle.ssa_form.specs.Ssa.{Arg, var, lit, Op}
-use Rattle.ssa_form.specs.Checks.{check_holds}
-use Rattle.ssa_form.specs.Storage.{Held, unset, term, context, position, marker, Handler, Leaving, calls, ends_body, always_raises, Storage, Frame, After, next, choose, raise, finish, Mode, plain, tail, jump, tests, Around, go_on, when, if_some, outside}
-use Rattle.ssa_form.specs.Values.{terms_of, handed, raises_for_sure, puts_of, parts_of, is_tail, part_cuts}
-use Rattle.ssa_form.specs.SetFacts.{gives_nothing, is_peek, is_tests, is_try_start, unsets_registers}
-use Rattle.ssa_form.specs.Operations.{put, collected, gives_held, asked, found, answers, leaving, follows, follows_by, ends_with, calls_by, leaving_of, local_does, remote_does, fun_does, send_does, raise_does, cons_does, map_does, option_held, key_does, element_does, cell_does, fun_made, start_does, with_context, at_context, took, takes_segment, restore_does, open_does, close_does, created, seen, seen_or, looks, peek_does, take_does, skip_does, waited, waits_for, wait_does, bind_does, use_does, on_terms, does}
-use Rattle.ssa_form.proofs.Moves.{at, taking, passing, Meant, of_call, of_term, of_names, of_send, of_trace, Came, as_it_was, by_note, by_reply, by_meaning, by_taking, Went, nowhere, to_note, to_reply, to_meaning, to_message, to_new_message, to_taking, to_passing, to_place, came}
+use Rattle.ssa_form.specs.Ssa.{Arg, var}
+use Rattle.ssa_form.specs.Storage.{Held, term, context, position, marker, Leaving, Storage, Frame, After, next, choose, Mode, plain, tail, jump, tests, Around, outside}
+use Rattle.ssa_form.specs.Values.{puts_of}
+use Rattle.ssa_form.specs.SetFacts.{is_tests}
+use Rattle.ssa_form.specs.Operations.{put, found, follows, raise_does, cons_does, map_does, option_held, key_does, element_does, cell_does, fun_made, start_does, with_context, at_context, took, takes_segment, restore_does, open_does, close_does, seen, seen_or, looks, peek_does, take_does, skip_does, waited, waits_for, wait_does, bind_does, use_does}
+use Rattle.ssa_form.proofs.Moves.{at, taking, Came, as_it_was, by_note, Went, nowhere, to_note, to_reply, to_message, to_new_message, to_taking, to_passing, to_place}
 use Rattle.ssa_form.proofs.Spending.{put_all_stays}
-use Rattle.ssa_form.proofs.TwoStorages.{Opt, opt_none, opt_some, lk, left_by, leaves_by, writes, Two, Traits, traits, Steady, Calm, left_so, Keeps, Sim, sim_on, sim_pick, sim_up, sim_over, sim_bad}
+use Rattle.ssa_form.proofs.TwoStorages.{Opt, lk, Two, Traits, Steady, Calm, Keeps, Sim, sim_on, sim_pick, sim_over, sim_bad}
 use Rattle.ssa_form.proofs.TwoRules.{came_so, some_sim, opt_sim, opt_go, when_sim, outside_sim, no_and, not_false, same_up, cleared_up, cleared_pick, put_sim, same_on, cleared_on, gives_sim, asked_sim, found_sim, follows_by_sim}
 
 module _ {S T : Type 0} (two : Two S T) (kind : Traits) (keeps : Keeps two kind) (n0 : ℕ) (w0 : Option Message)
