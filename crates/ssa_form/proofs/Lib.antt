@@ -25,6 +25,7 @@ pub mod TwoRuns
 pub mod TwoBlocks
 pub mod VarLists
 mod TwinChains
+mod TwinEntries
 mod TwinRuns
 pub mod Numbered
 mod Bodies

@@ -1,10 +1,12 @@
 -- The runs of the three forms are over under the cycle rule, and give no entries back.
 use Rattle.std.proofs.Common.{◌≡◌, ◌≢◌, ◌≤◌, ℕ, List, [], Option, Some, None, refl, sym, subst, ◌∙◌}
 use Rattle.erl_term.specs.Term.{Term}
-use Rattle.world_model.specs.Run.{State, Outcome}
+use Rattle.erl_term.specs.Terms.{Values}
+use Rattle.world_model.specs.Run.{State, Outcome, M}
 use Rattle.step_machine.specs.Bodies.{Here}
 use Rattle.step_machine.specs.EntryBound.{Lowers}
 use Rattle.step_machine.specs.Frames.{MatchContext}
+use Rattle.pass_contract.specs.Lawful.{Lawful, IsLawful}
 use Rattle.ssa_form.specs.Ssa.{Body}
 use Rattle.ssa_form.specs.Storage.{Handler, Storage, Ended, done, unfinished, Around}
 use Rattle.ssa_form.specs.Flow.{point, begins, Reached}
@@ -20,6 +22,10 @@ use Rattle.ssa_form.proofs.SpotHandlers.{registers_track, params_keep, stack_tra
 use Rattle.ssa_form.proofs.OpTurns.{none_some}
 use Rattle.ssa_form.proofs.Turns.{Config, Good}
 use Rattle.ssa_form.proofs.Cycles.{is_over_soon, runs_lower}
+
+-- what is lawful gives no entries back, so these laws hold of what the contracts of passes enter
+pub lawful_lowers : (enter : ℕ → Values → M Term) → IsLawful enter → Lowers enter
+lawful_lowers enter l n vs s = let h : Lawful s (enter n vs s).0 = l n vs s in h.left
 
 module _ {S : Type 0} (o : Storage S) (around : Around) (here : Here) (lowers : Lowers here.enter)
     (open_in : S → List Handler) (tracks : Tracks o open_in) (b : Body) where

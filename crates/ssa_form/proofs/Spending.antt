@@ -14,7 +14,7 @@ use Rattle.world_model.specs.Meaning.{single}
 use Rattle.world_model.specs.MapUpdate.{Put, put_each, put_all}
 use Rattle.world_model.specs.Requests.{replied, call_out, sent, send_to, answers, is_send, send_or_call}
 use Rattle.world_model.specs.Entries.{entry_left}
-use Rattle.world_model.specs.RemoteCalls.{call_erlang, call_terms, apply_term, raise_again}
+use Rattle.world_model.specs.RemoteCalls.{call_erlang, call_terms, apply_term}
 use Rattle.step_machine.specs.Bodies.{Here, calling, callees}
 use Rattle.step_machine.specs.EntryBound.{Lowers}
 use Rattle.ssa_form.specs.Storage.{Around}
@@ -154,10 +154,6 @@ pub put_all_stays : (qs : List Put) (t : Term) (s : State) → (put_all qs t s).
 unfolding put_all
 put_all_stays qs (T.map ps) s = put_each_stays qs ps s
 put_all_stays qs t s = refl
-
-pub raise_again_stays : (t r : Term) (s : State) → (raise_again t r s).0 ≡ s
-raise_again_stays (T.raw_trace c) r s = refl
-raise_again_stays _ r s = refl
 
 -- Calls of the module's functions.
 
