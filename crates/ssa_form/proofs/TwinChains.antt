@@ -222,7 +222,8 @@ module _ (b : Body) where
         → all_held in_vars around here (at y c n w) u.args ≡ all_held in_vars around here (at x c n w) u.args
     set_reads p u m e named x y c n w r = all_alike around here x y c n w r.vars r.alike u.args
         (subst (λ o. IsTrue (all_among (set_vars o) r.vars)) e
-        (all_first (set_vars (set_at b p)) (end_vars (last_at b p)) r.vars (formed.available p r.vars x.handlers r.way)))
+        (all_first (set_vars (set_at b p)) (end_vars (last_at b p)) r.vars
+        (formed.available p r.vars x.handlers r.way)))
         (subst (λ z. IsTrue (none_among (if z then [] else arg_vars u.args) (tags_in b.blocks))) named
         (subst (λ o. IsTrue (none_among (value_vars o) (tags_in b.blocks))) e
         (none_first (value_vars (set_at b p)) (end_vars (last_at b p)) (tags_in b.blocks)

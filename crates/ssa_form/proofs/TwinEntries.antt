@@ -1,21 +1,16 @@
 -- How two runs whose variables are alike where the way has set them enter a block: by its phis, or by its landing.
-use Rattle.std.proofs.Common.{◌≡◌, ⊎_elim, ℕ, suc, List, [], ◌∷◌, ◌++◌, length, append_assoc, Contains, Bool, true, false, ◌&&◌, Option, Some, None, refl, sym, ap, subst, ◌∙◌, arith, eqb, IsTrue, IsFalse, if◌then◌else◌}
-use Rattle.std.proofs.lemmas.Bool.{eq-eqb}
+use Rattle.std.proofs.Common.{◌≡◌, ⊎_elim, ℕ, suc, List, [], ◌∷◌, ◌++◌, append_assoc, Bool, true, false, ◌&&◌, Option, Some, None, refl, sym, ap, subst, ◌∙◌, eqb, IsTrue, IsFalse, if◌then◌else◌}
 use Rattle.erl_base.specs.Lists.{among}
-use Rattle.erl_term.specs.Term.{Term, Class}
 use Rattle.world_model.specs.World.{Message}
 use Rattle.world_model.specs.Run.{State}
 use Rattle.step_machine.specs.Bodies.{Here}
 use Rattle.step_machine.specs.Frames.{MatchContext}
 use Rattle.ssa_form.specs.Ssa as Ssa
 use Rattle.ssa_form.specs.Ssa.{Arg, Op, Set, Last, br, succeeded, switch, ret, Phi, Block, Body, block_at}
-use Rattle.ssa_form.specs.Storage.{Held, Handler, ends_body, Frame, Ended, Around}
-use Rattle.ssa_form.specs.SetFacts.{arg_vars, given_vars, all_among, none_among, is_try_start}
-use Rattle.ssa_form.specs.Flow.{point, set_at, last_in, last_at, last_of, targets, phis_at, phi_vars, edge_vars, phi_reads, along_edge, Way, goes, begins, Step, leads, succeeds, fails, raises}
-use Rattle.ssa_form.specs.Liveness.{set_vars, end_vars, last_vars, value_vars}
-use Rattle.ssa_form.specs.WellFormed.{WellFormed, tests_nothing, tags_in}
-use Rattle.ssa_form.specs.Operations.{held}
-use Rattle.ssa_form.specs.RunLaws.{beside_params, UnsetIsNeverSeen}
+use Rattle.ssa_form.specs.Storage.{Held, Handler, Frame, Around}
+use Rattle.ssa_form.specs.SetFacts.{all_among, none_among, is_try_start}
+use Rattle.ssa_form.specs.Flow.{point, phis_at, phi_vars, edge_vars, phi_reads, along_edge, Way, goes, Step}
+use Rattle.ssa_form.specs.WellFormed.{WellFormed, tags_in}
 use Rattle.ssa_form.specs.SsaRun as Run
 use Rattle.ssa_form.specs.SsaRun.{Raised, Vars, in_vars, is_landing, is_catch_end, mode_of, from_edge, if_set, with_phi, arg_held, phi_values, picked, chain_does, lands, landed, first_handler, no_handlers, only_if, without_first, with_handlers, vars_leave, blocks, params_hold, ssa_run}
 use Rattle.ssa_form.proofs.OpenHandlers.{some_is, none_is}
@@ -24,10 +19,10 @@ use Rattle.ssa_form.proofs.BlockSteps.{and_second, lands_op}
 use Rattle.ssa_form.proofs.ChainSteps.{From, all_from, tail_from}
 use Rattle.ssa_form.proofs.VarLists.{among_append, all_first, all_second, none_first, none_second}
 use Rattle.ssa_form.proofs.Moves.{at}
-use Rattle.ssa_form.proofs.TwoStorages.{Opt, opt_none, opt_some, lk, writes}
-use Rattle.ssa_form.proofs.TwoRuns.{Same, same_done, same_bad, same_unfinished, Out, out_bad, chain_sim, BlockPlan, BlockMatch, no_block, both_blocks, run_sim}
-use Rattle.ssa_form.proofs.TwoBlocks.{read_by, gives_back, LastPlan, last_sim, Puts, Closes, Goes, landed_sim, caught_sim, unlanded_sim, EntryPlan, entry_sim}
-use Rattle.ssa_form.proofs.TwinChains.{Alike, Meet, wrote_in, puts_did, drops_did, held_alike, Stand, long, Chose, Rose, AtLast, stands, plan}
+use Rattle.ssa_form.proofs.TwoStorages.{Opt, opt_none, opt_some, writes}
+use Rattle.ssa_form.proofs.TwoRuns.{Out, out_bad, chain_sim}
+use Rattle.ssa_form.proofs.TwoBlocks.{Puts, Closes, Goes, landed_sim, caught_sim, unlanded_sim, EntryPlan}
+use Rattle.ssa_form.proofs.TwinChains.{Alike, Meet, wrote_in, puts_did, drops_did, held_alike, Stand, Chose, Rose, AtLast, stands, plan}
 
 -- what was open where a block is entered, by a raise too
 abbrev pub Opened : Option Raised → List Handler → List Handler → Type 0
@@ -148,7 +143,8 @@ module _ (b : Body) (around : Around) (here : Here) (formed : WellFormed b) wher
 
     falls_close : (v : ℕ) → Closes in_vars in_vars around here L P U Falls v (Meet b (point n 0))
     falls_close v x y r = subst
-        (λ hs. Opt (Meet b (point n 0)) (with_handlers x (without_first v hs)) (with_handlers y (without_first v y.handlers)))
+        (λ hs. Opt (Meet b (point n 0)) (with_handlers x (without_first v hs)) (with_handlers y
+        (without_first v y.handlers)))
         (sym r.opened) (subst (λ hs. Opt (Meet b (point n 0)) (with_handlers x (without_first v (r.first ∷ r.inner)))
         (with_handlers y (without_first v hs))) (sym (r.handlers ∙ r.opened)) (by (eqb r.first.tag v)))
       where
@@ -173,7 +169,8 @@ module _ (b : Body) (around : Around) (here : Here) (formed : WellFormed b) wher
         (w : Option Message) (s : State) → S us i x y
         → Out in_vars in_vars around here L P U (chain_does in_vars around here k.before k.last us (at x c j w) s)
         (chain_does in_vars around here k.before k.last us (at y c j w) s)
-    chain_out us i from = chain_sim in_vars in_vars around here L P U k.before k.before k.last k.last (λ w. S us i) us us
+    chain_out us i from = chain_sim in_vars in_vars around here L P U k.before k.before k.last k.last
+        (λ w. S us i) us us
         (plan b around here formed n k there us i from (λ w. S us i) (λ w x y r. r))
 
     goes_on : (us : List Set) (i : ℕ) → From b n k there us i
@@ -222,7 +219,8 @@ module _ (b : Body) (around : Around) (here : Here) (formed : WellFormed b) wher
             (tail_from b n k there a (d ∷ f ∷ us) 0 from)))) x y c i w s (λ v. r)
         by (at_landing q) [] from = unlanded_sim in_vars in_vars around here L P U e a [] (ap is_catch_end q)
             (λ d f vs z. absurd cc) k.before k.last (at x c i w) s _
-        by (at_landing q) (d ∷ []) from = unlanded_sim in_vars in_vars around here L P U e a (d ∷ []) (ap is_catch_end q)
+        by (at_landing q) (d ∷ []) from = unlanded_sim in_vars in_vars around here L P U e a (d ∷ [])
+            (ap is_catch_end q)
             (λ d f vs z. absurd cc) k.before k.last (at x c i w) s _
         by (at_catch q) us from = caught_sim in_vars in_vars around here L P U e a q k.before k.before k.last k.last us
             us Falls (Meet b (point n 0)) (S us 1) (falls_close e.tag)

@@ -1,6 +1,6 @@
--- Two runs of a well-formed body whose variables are alike where the way has set them: they end alike. Each of the two is
--- a run that the other follows, by the induction over runs of two storages.
-use Rattle.std.proofs.Common.{◌≡◌, ⊎_elim, ℕ, suc, List, [], ◌∷◌, ◌++◌, length, append_assoc, Contains, Bool, true, false, ◌&&◌, Option, Some, None, refl, sym, ap, subst, ◌∙◌, arith, eqb, IsTrue, IsFalse, if◌then◌else◌}
+-- Two runs of a well-formed body whose variables are alike where the way has set them: they end alike. Each of the two
+-- is a run that the other follows, by the induction over runs of two storages.
+use Rattle.std.proofs.Common.{◌≡◌, ℕ, List, [], ◌∷◌, ◌++◌, length, Contains, Bool, true, false, Option, Some, None, refl, sym, ap, subst, ◌∙◌, arith, eqb, IsTrue, if◌then◌else◌}
 use Rattle.std.proofs.lemmas.Bool.{eq-eqb}
 use Rattle.erl_base.specs.Lists.{among}
 use Rattle.erl_term.specs.Term.{Term, Class}
@@ -8,27 +8,22 @@ use Rattle.world_model.specs.World.{Message}
 use Rattle.world_model.specs.Run.{State}
 use Rattle.step_machine.specs.Bodies.{Here}
 use Rattle.step_machine.specs.Frames.{MatchContext}
-use Rattle.ssa_form.specs.Ssa as Ssa
-use Rattle.ssa_form.specs.Ssa.{Arg, Op, Set, Last, br, succeeded, switch, ret, Phi, Block, Body, block_at}
-use Rattle.ssa_form.specs.Storage.{Held, Handler, ends_body, Frame, Ended, Around}
-use Rattle.ssa_form.specs.SetFacts.{arg_vars, given_vars, all_among, none_among, is_try_start}
-use Rattle.ssa_form.specs.Flow.{point, set_at, last_in, last_at, last_of, targets, phis_at, phi_vars, edge_vars, phi_reads, along_edge, Way, goes, begins, Step, leads, succeeds, fails, raises}
+use Rattle.ssa_form.specs.Ssa.{Arg, Last, br, succeeded, switch, ret, Block, Body, block_at}
+use Rattle.ssa_form.specs.Storage.{Held, Handler, ends_body, Ended, Around}
+use Rattle.ssa_form.specs.SetFacts.{arg_vars, given_vars, all_among, none_among}
+use Rattle.ssa_form.specs.Flow.{point, set_at, last_in, last_at, last_of, targets, phi_vars, phi_reads, Way, begins, leads, succeeds, fails, raises}
 use Rattle.ssa_form.specs.Liveness.{set_vars, end_vars, last_vars, value_vars}
 use Rattle.ssa_form.specs.WellFormed.{WellFormed, tests_nothing, tags_in}
 use Rattle.ssa_form.specs.Operations.{held}
 use Rattle.ssa_form.specs.RunLaws.{beside_params, UnsetIsNeverSeen}
-use Rattle.ssa_form.specs.SsaRun as Run
-use Rattle.ssa_form.specs.SsaRun.{Raised, Vars, in_vars, is_landing, is_catch_end, mode_of, from_edge, if_set, with_phi, arg_held, phi_values, picked, chain_does, lands, landed, first_handler, no_handlers, only_if, without_first, with_handlers, vars_leave, blocks, params_hold, ssa_run}
+use Rattle.ssa_form.specs.SsaRun.{Vars, in_vars, picked, first_handler, no_handlers, only_if, vars_leave, blocks, params_hold, ssa_run}
 use Rattle.ssa_form.proofs.OpenHandlers.{some_is, none_is}
-use Rattle.ssa_form.proofs.OpTurns.{and_first}
-use Rattle.ssa_form.proofs.BlockSteps.{and_second, lands_op}
-use Rattle.ssa_form.proofs.ChainSteps.{From, all_from, tail_from}
-use Rattle.ssa_form.proofs.VarLists.{among_append, all_first, all_second, none_first, none_second}
+use Rattle.ssa_form.proofs.VarLists.{all_second, none_second}
 use Rattle.ssa_form.proofs.Moves.{at}
-use Rattle.ssa_form.proofs.TwoStorages.{Opt, opt_none, opt_some, lk, writes}
-use Rattle.ssa_form.proofs.TwoRuns.{Same, same_done, same_bad, same_unfinished, Out, out_bad, chain_sim, BlockPlan, BlockMatch, no_block, both_blocks, run_sim}
-use Rattle.ssa_form.proofs.TwoBlocks.{read_by, gives_back, LastPlan, last_sim, Puts, Closes, Goes, landed_sim, caught_sim, unlanded_sim, EntryPlan, entry_sim}
-use Rattle.ssa_form.proofs.TwinChains.{Alike, Meet, wrote_in, puts_did, drops_did, held_alike, Stand, long, Chose, Rose, AtLast, stands, plan}
+use Rattle.ssa_form.proofs.TwoStorages.{Opt, opt_none, opt_some, lk}
+use Rattle.ssa_form.proofs.TwoRuns.{Same, same_done, same_bad, same_unfinished, BlockPlan, BlockMatch, no_block, both_blocks, run_sim}
+use Rattle.ssa_form.proofs.TwoBlocks.{read_by, gives_back, LastPlan, last_sim, entry_sim}
+use Rattle.ssa_form.proofs.TwinChains.{Alike, Meet, held_alike, long, Chose, Rose, AtLast}
 use Rattle.ssa_form.proofs.TwinEntries.{Arrives, Arrive, arrives_by, entry_plan}
 
 -- Lasts.
@@ -97,7 +92,8 @@ module _ (b : Body) (around : Around) (here : Here) (formed : WellFormed b) wher
 
     last_leads : (t : ℕ) → Contains (targets k.last) t → (x y : Vars) → Meet b (point n (length k.chain)) x y
         → Arrives b around here formed None n t x y
-    last_leads t q x y r = arrives_by b around here formed n t (length k.chain) x.handlers x.handlers [] r.vars x y None r.way
+    last_leads t q x y r = arrives_by b around here formed n t
+        (length k.chain) x.handlers x.handlers [] r.vars x y None r.way
         (leads (point n (length k.chain)) x.handlers k.last t last_is q) r.alike refl r.handlers
 
     leave_both : (x y : Vars) → y.handlers ≡ x.handlers
@@ -123,7 +119,8 @@ module _ (b : Body) (around : Around) (here : Here) (formed : WellFormed b) wher
 
     picks_arrive : (d : Bool) (x y : Vars) → (r : Chose b around here formed n d x y)
         → Arrives b around here formed None n (picked d r.holds r.tested) x y
-    picks_arrive true x y r = arrives_by b around here formed n r.holds r.at r.before _ (given_vars r.by) r.vars x y None r.way
+    picks_arrive true x y r = arrives_by b around here formed n r.holds r.at r.before _
+        (given_vars r.by) r.vars x y None r.way
         (succeeds (point n r.at) r.before r.by r.var r.holds r.tested r.is_there r.last) r.alike r.now r.handlers
     picks_arrive false x y r = arrives_by b around here formed n r.tested r.at r.before _ [] r.vars x y None r.way
         (fails (point n r.at) r.before r.by r.tested r.is_there (r.starts refl)) r.alike r.now r.handlers
@@ -153,20 +150,24 @@ module _ (b : Body) (around : Around) (here : Here) (formed : WellFormed b) wher
         (λ m v w. Chose b around here formed m v) (Rose b around here formed) n k k
     block_plan = record {
       enters = λ e from x y c sv w s r.
-          entry_sim in_vars in_vars around here L P U from n k k e (Arrive b around here formed e from n) (entry_plan b around here formed n k there e from) x y c sv w s r;
+          entry_sim in_vars in_vars around here L P U from n k k e (Arrive b around here formed e from n)
+          (entry_plan b around here formed n k there e from) x y c sv w s r;
       goes = λ go go' alike x y c sv w s r.
-          last_sim in_vars in_vars around here (Arrive b around here formed) n k.last L last_plan go go' alike x y c sv w s r;
+          last_sim in_vars in_vars around here (Arrive b around here formed) n k.last L last_plan go go' alike x y c
+          sv w s r;
       last = refl;
       picks = λ d w x y r q t e i. pick_there d x y r q t e i;
       handler = λ x y r. ap first_handler r.meet.handlers;
       raises = λ x y r h e q t. rises_to x y r h e q t;
     }
 
-  blocks_match : (n : ℕ) → BlockMatch in_vars in_vars around here b b (Arrive b around here formed) (AtLast b around here formed)
+  blocks_match : (n : ℕ) → BlockMatch in_vars in_vars around here b b (Arrive b around here formed)
+      (AtLast b around here formed)
       (λ m v w. Chose b around here formed m v) (Rose b around here formed) n (block_at b n) (block_at b n)
   blocks_match n = by (block_at b n) refl
     where
-      by : (o : Option Block) → block_at b n ≡ o → BlockMatch in_vars in_vars around here b b (Arrive b around here formed)
+      by : (o : Option Block) → block_at b n ≡ o → BlockMatch in_vars in_vars around here b b
+          (Arrive b around here formed)
           (AtLast b around here formed) (λ m v w. Chose b around here formed m v) (Rose b around here formed) n o o
       by None e = no_block None
       by (Some k) e = both_blocks k k (block_plan n k e)
@@ -175,7 +176,8 @@ module _ (b : Body) (around : Around) (here : Here) (formed : WellFormed b) wher
   follows_so : (k : ℕ) (X Y : ℕ → Held) (c : List MatchContext) (s : State) → Alike b b.params X Y
       → Same (blocks in_vars around here b k None 0 0 (at (record { values = X; handlers = [] }) c 0 None) s)
       (blocks in_vars around here b k None 0 0 (at (record { values = Y; handlers = [] }) c 0 None) s)
-  follows_so k X Y c s h = run_sim in_vars in_vars around here b b (Arrive b around here formed) (AtLast b around here formed)
+  follows_so k X Y c s h = run_sim in_vars in_vars around here b b (Arrive b around here formed)
+      (AtLast b around here formed)
       (λ m v w. Chose b around here formed m v) (Rose b around here formed) blocks_match k None 0 0
       (record { values = X; handlers = [] }) (record { values = Y; handlers = [] }) c 0 None s (record {
         before = b.params;

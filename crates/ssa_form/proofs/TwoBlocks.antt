@@ -228,7 +228,8 @@ module _ {S U : Type 0} (o : Storage S) (p : Storage U) (around : Around) (here 
     -- three landings that begin both chains
     pub landed_sim : (e : Raised) (a b d : Set) → a.op ≡ landing → (as' bs : List FrameAction) (l l' : Last)
         (us vs : List Set) (r q0 q1 q2 q3 : S → U → Type 0) → Closes r e.tag q0
-        → (IsTrue (lands e.tag a && lands e.tag b && lands e.tag d) → Puts q0 a.dst q1 × Puts q1 b.dst q2 × Puts q2 d.dst q3)
+        → (IsTrue (lands e.tag a && lands e.tag b && lands e.tag d)
+        → Puts q0 a.dst q1 × Puts q1 b.dst q2 × Puts q2 d.dst q3)
         → Goes q3 (chain_does o around here as' l us) (chain_does p around here bs l' vs) → (x : S)
         (y : U) (c : List MatchContext) (i : ℕ) (w : Option Message) (s : State) → (w ≡ None → r x y)
         → Outs (landed o around here as' l (a ∷ b ∷ d ∷ us) e (at x c i w) s)
@@ -245,7 +246,8 @@ module _ {S U : Type 0} (o : Storage S) (p : Storage U) (around : Around) (here 
             else catches p around here bs l' (a ∷ b ∷ d ∷ vs) e (at y c i w) s)
         by true h = closed_sim r q0 e.tag g (takes_raised o e a b d (chain_does o around here as' l us) s)
             (takes_raised p e a b d (chain_does p around here bs l' vs) s) c i
-            (λ x' y' z'. takes_sim e a b d q0 q1 q2 q3 (h refl).0 (h refl).1 (h refl).2 (chain_does o around here as' l us)
+            (λ x' y' z'. takes_sim e a b d q0 q1 q2 q3 (h refl).0 (h refl).1 (h refl).2
+            (chain_does o around here as' l us)
             (chain_does p around here bs l' vs) rest x' y' c i s z') w x y z
         by false h = when_off (ends_catch e.tag a) (closed o around here e.tag (at x c i w)
             (λ f. go_on (follows o around here a.dst f (exit_of e.class e.reason s))
@@ -325,7 +327,8 @@ module _ {S U : Type 0} (o : Storage S) (p : Storage U) (around : Around) (here 
 
     -- a chain that begins with neither takes no raise
     pub unlanded_sim : (e : Raised) (a : Set) (us : List Set) → is_catch_end a.op ≡ false
-        → ((b d : Set) (vs : List Set) → us ≡ b ∷ d ∷ vs → is_landing a.op ≡ false) → (as' : List FrameAction) (l : Last)
+        → ((b d : Set) (vs : List Set) → us ≡ b ∷ d ∷ vs → is_landing a.op ≡ false)
+        → (as' : List FrameAction) (l : Last)
         (f : Frame S) (s : State) (z : After U) → Outs (landed o around here as' l (a ∷ us) e f s) z
     unlanded_sim e a [] g h as' l f s z = when_off (ends_catch e.tag a) _ z
         (ap (λ t. t && reads_tag e.tag a.args && none_before a.before) g)

@@ -15,10 +15,27 @@ use Rattle.ssa_form.specs.Values.{handed, raises_for_sure, is_tail}
 use Rattle.ssa_form.specs.SetFacts.{is_tests}
 use Rattle.ssa_form.specs.Operations.{put, collected, gives_held, asked, found, answers, leaving, follows, follows_by, ends_with, calls_by, leaving_of, local_does, remote_does, fun_does, send_does}
 use Rattle.ssa_form.proofs.Moves.{at, Meant, of_call, of_term, of_names, of_send, of_trace, Came, by_meaning, Went, to_meaning, came}
-use Rattle.ssa_form.proofs.TwoStorages.{Opt, opt_none, opt_some, lk, left_by, Two, Traits, Steady, Calm, left_so, Keeps, Sim, sim_on, sim_pick, sim_up, sim_over, sim_bad}
+use Rattle.ssa_form.proofs.TwoStorages.{Opt, opt_none, opt_some, lk, left_by, Two, Traits, Steady, Calm, left_so, Keeps, Start, Sim, sim_on, sim_pick, sim_up, sim_over, sim_bad}
 
-module _ {S T : Type 0} (two : Two S T) (kind : Traits) (keeps : Keeps two kind) (n0 : ℕ) (w0 : Option Message)
-    (s0 : State) where
+module _ {S T : Type 0} (start : Start S T) where
+  abbrev two : Two S T
+  two = start.two
+
+  abbrev kind : Traits
+  kind = start.kind
+
+  abbrev keeps : Keeps two kind
+  keeps = start.keeps
+
+  abbrev n0 : ℕ
+  n0 = start.save
+
+  abbrev w0 : Option Message
+  w0 = start.window
+
+  abbrev s0 : State
+  s0 = start.state
+
   abbrev o : Storage S
   o = two.o
 
@@ -80,7 +97,8 @@ module _ {S T : Type 0} (two : Two S T) (kind : Traits) (keeps : Keeps two kind)
   -- the same before what goes on
   pub opt_go : (R : S → T → Type 0) (x : Option S) (y : Option T) (k : S → After S) (l : T → After T)
       (f : Frame S → State → After S) (g : Frame T → State → After T) → Opt R x y
-      → ((a : S) (b : T) → R a b → B (go_on (k a) f) (go_on (l b) g)) → B (go_on (if_some x k) f) (go_on (if_some y l) g)
+      → ((a : S) (b : T) → R a b → B (go_on (k a) f) (go_on (l b) g))
+      → B (go_on (if_some x k) f) (go_on (if_some y l) g)
   opt_go R _ _ k l f g (opt_none y) h = sim_bad (go_on (if_some y l) g)
   opt_go R _ _ k l f g (opt_some a b r) h = h a b r
 
@@ -179,7 +197,8 @@ module _ {S T : Type 0} (two : Two S T) (kind : Traits) (keeps : Keeps two kind)
     pub same_on : IsFalse wr → (x : S) (y : T) (c : List MatchContext) (n : ℕ) (w : Option Message)
         → (v : Option Message) → v ≡ w → before (lk v) x y → (s : State) → W n w s
         → B (next (at x c n w) s) (next (at y c n w) s)
-    same_on e x y c n w v i b s g = sim_on calm.looks calm.steady.opens x y c n w s (subst (λ t. done t (lk w) x y) (sym e)
+    same_on e x y c n w v i b s g = sim_on calm.looks calm.steady.opens x y c n w s (subst (λ t. done t (lk w) x y)
+        (sym e)
         (subst (λ t. done false t x y) (same_flag (lk v) ∙ ap lk i) (keeps.stays calm.steady (lk v) x y b))) g
 
     pub cleared_on : IsFalse wr → (x : S) (y : T) → cleared x y → (c : List MatchContext) (n : ℕ) (s : State)
@@ -293,7 +312,8 @@ module _ {S T : Type 0} (two : Two S T) (kind : Traits) (keeps : Keeps two kind)
     -- the end of a body
     ending_sim : ok ends_body → (x : S) (y : T) (c : List MatchContext) (n : ℕ) (w : Option Message)
         → before (lk w) x y → (a : After S) (z : After T) → B a z
-        → B (leaving o around here ends_body (at x c n w) (λ g. a)) (leaving p around here ends_body (at y c n w) (λ g. z))
+        → B (leaving o around here ends_body (at x c n w) (λ g. a)) (leaving p around here ends_body (at y c n w)
+        (λ g. z))
     ending_sim j x y c n (Some m) r a z h = sim_bad After.bad
     ending_sim j x y c n None r a z h = when_sim (eqb n 0) _ _ (λ q.
         opt_sim (left_so (before false) ends_body) (o.leaves ends_body x) (p.leaves ends_body y) (λ st. a) (λ st. z)
@@ -318,13 +338,15 @@ module _ {S T : Type 0} (two : Two S T) (kind : Traits) (keeps : Keeps two kind)
 
       module _ (h : IsTrue kind.raises) where
         pub local_sim : (k : ℕ) (m : Mode) → ok (left_by m calls) → (vs : List Held)
-            → B (local_does o around here k m d vs (at x c n0 w0) s0) (local_does p around here k m d vs (at y c n0 w0) s0)
+            → B (local_does o around here k m d vs (at x c n0 w0) s0) (local_does p around here k m d vs
+            (at y c n0 w0) s0)
         local_sim k m j vs = when_sim (takes (slice_get around.arities k) (length vs)) _ _ (λ q.
             some_sim (handed (is_tail m) c around.reached k vs) _ _ (λ ts. calls_sim m calls j no_end _
             (of_call k (is_tail m) ts) (λ a b i. h)))
 
         pub remote_sim : (m : Mode) → ok (left_by m calls) → ok (left_by m always_raises) → (vs : Values)
-            → B (remote_does o around here m d vs (at x c n0 w0) s0) (remote_does p around here m d vs (at y c n0 w0) s0)
+            → B (remote_does o around here m d vs (at x c n0 w0) s0) (remote_does p around here m d vs
+            (at y c n0 w0) s0)
         remote_sim m j i (u ∷ f ∷ vs) = by (raises_for_sure u f (length vs))
           where
             q : M Values

@@ -79,7 +79,8 @@ module _ {S T : Type 0} (o : Storage S) (p : Storage T) (around : Around) (here 
       pub next : Bool → S → T → Type 0
       pub raised : S → T → Type 0
       pub acts : Acts a before u.before v.before
-      pub reads : IsFalse (names_handler u.op) → (x : S) (y : T) (c : List MatchContext) (n : ℕ) (w : Option Message) → before (lk w) x y
+      pub reads : IsFalse (names_handler u.op) → (x : S) (y : T) (c : List MatchContext) (n : ℕ)
+          (w : Option Message) → before (lk w) x y
           → all_held p around here (at y c n w) u.args ≡ all_held o around here (at x c n w) u.args
       pub kept : Keeps (record {
         o = o;
@@ -96,7 +97,8 @@ module _ {S T : Type 0} (o : Storage S) (p : Storage T) (around : Around) (here 
       }) (traits m u.op)
       pub leaves : (l : Leaving) → leaves_by u.op m l → ok l
       pub rises : IsTrue (may_raise m u.op) → (x : S) (y : T) → raised x y → rose x y
-      pub picks : IsTrue (is_tests m) → IsFalse (is_try_end u.op) → (b : Bool) → (b ≡ false → IsFalse (is_try_start u.op))
+      pub picks : IsTrue (is_tests m) → IsFalse (is_try_end u.op) → (b : Bool) → (b ≡ false
+          → IsFalse (is_try_start u.op))
           → (w : Bool) (x : S) (y : T) → done (writes u.op && b) w x y → at_pick b w x y
       pub passes : IsFalse (is_try_start u.op) → (w : Bool) (x : S) (y : T) → done (writes u.op) w x y → next w x y
 
@@ -131,7 +133,8 @@ module _ {S T : Type 0} (o : Storage S) (p : Storage T) (around : Around) (here 
       same_held x y c n w s r false e = ap (λ hs. does p around here u.op u.args m u.dst hs (at y c n w) s)
           (ap (λ as'. all_held p around here (at y c n w) as') pl.args ∙ pl.reads e x y c n w r)
 
-      after_acts : (n : ℕ) (w : Option Message) (s : State) (x : S) (y : T) (c : List MatchContext) → pl.before (lk w) x y
+      after_acts : (n : ℕ) (w : Option Message) (s : State) (x : S) (y : T) (c : List MatchContext)
+          → pl.before (lk w) x y
           → SetSim n w s
           (does o around here u.op u.args m u.dst (all_held o around here (at x c n w) u.args) (at x c n w) s)
           (does p around here v.op v.args m v.dst (all_held p around here (at y c n w) v.args) (at y c n w) s)
@@ -149,7 +152,8 @@ module _ {S T : Type 0} (o : Storage S) (p : Storage T) (around : Around) (here 
           → pl.next (lk w) x y → Out (k (at x c n w) s) (k' (at y c n w) s))
           → Out (go_on z k) (go_on z' k')
       then_sim i j t _ _ k k' (sim_on l q x y c n w s r g) h = h x y c n w s (pl.passes q (lk w) x y r)
-      then_sim i j t _ _ k k' (sim_pick b e q f x y c n w s r g) h = out_pick b x y c n w s (pl.picks e q b f (lk w) x y r)
+      then_sim i j t _ _ k k' (sim_pick b e q f x y c n w s r g) h = out_pick b x y c n w s (pl.picks e q b f
+          (lk w) x y r)
       then_sim i j t _ _ k k' (sim_up e c0 r0 x y c n w s r g) h = out_up c0 r0 x y c n w s (pl.rises e x y r)
       then_sim i j t _ _ k k' (sim_over s q g) h = out_over s q
       then_sim i j t _ _ k k' (sim_bad z) h = out_bad (go_on z k')

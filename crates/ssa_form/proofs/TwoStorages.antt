@@ -135,15 +135,26 @@ pub record Keeps {S T : Type 0} (two : Two S T) (f : Traits) : Type 0 where
   pub closes : IsTrue f.closes → (v : ℕ) (x : S) (y : T) → two.before false x y
       → Opt (two.done false false) (two.o.closes v x) (two.p.closes v y)
 
+-- where an operation begins: the two storages, its traits, the save place, the message that is looked at, and the state
+pub record Start (S T : Type 0) : Type 1 where
+  pub two : Two S T
+  pub kind : Traits
+  pub keeps : Keeps two kind
+  pub save : ℕ
+  pub window : Option Message
+  pub state : State
+
 -- What comes of an operation on both sides: the same, with stores that are related, or a broken rule on the first side.
 -- Beside the stores it says what the run did to the rest, from this save place, message that is looked at and state on.
 module _ {S T : Type 0} (two : Two S T) (kind : Traits) (i : ℕ) (v : Option Message) (u : State) where
   pub data Sim : After S → After T → Type 0 where
-    sim_on : IsFalse kind.looks → IsFalse kind.opens → (x : S) (y : T) (c : List MatchContext) (n : ℕ) (w : Option Message) (s : State)
+    sim_on : IsFalse kind.looks → IsFalse kind.opens → (x : S) (y : T) (c : List MatchContext) (n : ℕ)
+        (w : Option Message) (s : State)
         → two.done kind.writes (lk w) x y → Went two.around two.here kind.looks kind.back i v u n w s
         → Sim (next (at x c n w) s) (next (at y c n w) s)
     sim_pick : (b : Bool) → IsTrue kind.tested → IsFalse kind.closes → (b ≡ false → IsFalse kind.opens) → (x : S)
-        (y : T) (c : List MatchContext) (n : ℕ) (w : Option Message) (s : State) → two.done (kind.writes && b) (lk w) x y
+        (y : T) (c : List MatchContext) (n : ℕ) (w : Option Message) (s : State)
+        → two.done (kind.writes && b) (lk w) x y
         → Went two.around two.here kind.looks kind.back i v u n w s
         → Sim (choose b (at x c n w) s) (choose b (at y c n w) s)
     sim_up : IsTrue kind.raises → (k : Class) (r : Term) (x : S) (y : T) (c : List MatchContext) (n : ℕ)

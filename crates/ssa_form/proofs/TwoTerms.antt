@@ -19,11 +19,28 @@ use Rattle.ssa_form.specs.SetFacts.{is_tests}
 use Rattle.ssa_form.specs.Operations.{put, found, follows, raise_does, cons_does, map_does, option_held, key_does, element_does, cell_does, fun_made, start_does, with_context, at_context, took, takes_segment, restore_does, open_does, close_does, seen, seen_or, looks, peek_does, take_does, skip_does, waited, waits_for, wait_does, bind_does, use_does}
 use Rattle.ssa_form.proofs.Moves.{at, taking, Came, as_it_was, by_note, Went, nowhere, to_note, to_reply, to_message, to_new_message, to_taking, to_passing, to_place}
 use Rattle.ssa_form.proofs.Spending.{put_all_stays}
-use Rattle.ssa_form.proofs.TwoStorages.{Opt, lk, Two, Traits, Steady, Calm, Keeps, Sim, sim_on, sim_pick, sim_over, sim_bad}
+use Rattle.ssa_form.proofs.TwoStorages.{Opt, lk, Two, Traits, Steady, Calm, Keeps, Start, Sim, sim_on, sim_pick, sim_over, sim_bad}
 use Rattle.ssa_form.proofs.TwoRules.{came_so, some_sim, opt_sim, opt_go, when_sim, outside_sim, no_and, not_false, same_up, cleared_up, cleared_pick, put_sim, same_on, cleared_on, gives_sim, asked_sim, found_sim, follows_by_sim}
 
-module _ {S T : Type 0} (two : Two S T) (kind : Traits) (keeps : Keeps two kind) (n0 : ℕ) (w0 : Option Message)
-    (s0 : State) where
+module _ {S T : Type 0} (start : Start S T) where
+  abbrev two : Two S T
+  two = start.two
+
+  abbrev kind : Traits
+  kind = start.kind
+
+  abbrev keeps : Keeps two kind
+  keeps = start.keeps
+
+  abbrev n0 : ℕ
+  n0 = start.save
+
+  abbrev w0 : Option Message
+  w0 = start.window
+
+  abbrev s0 : State
+  s0 = start.state
+
   abbrev o : Storage S
   o = two.o
 
@@ -72,13 +89,13 @@ module _ {S T : Type 0} (two : Two S T) (kind : Traits) (keeps : Keeps two kind)
   module _ (calm : Calm kind) (x : S) (y : T) (c : List MatchContext) (n : ℕ) (w : Option Message)
       (r : before (lk w) x y) (s : State) (g : W n w s) where
     puts : IsTrue wr → (h : Held) → B (put o around here d h (at x c n w) s) (put p around here d h (at y c n w) s)
-    puts e h = put_sim two kind keeps n0 w0 s0 calm e h x y c n w r s g
+    puts e h = put_sim start calm e h x y c n w r s g
 
     again_sim : IsTrue kind.raises → (u v : Term) → B (follows o around here None (at x c n w) (raise_again u v s))
         (follows p around here None (at y c n w) (raise_again u v s))
     again_sim h (Tm.raw_trace k) v =
-        same_up two kind keeps n0 w0 s0 h _ _ x y c n w r s (came_so two kind keeps n0 w0 s0 n w s g)
-    again_sim h _ v = same_up two kind keeps n0 w0 s0 h _ _ x y c n w r s (came_so two kind keeps n0 w0 s0 n w s g)
+        same_up start h _ _ x y c n w r s (came_so start n w s g)
+    again_sim h _ v = same_up start h _ _ x y c n w r s (came_so start n w s g)
 
     pub raise_sim : IsTrue kind.raises → (vs : Values)
         → B (raise_does o around here vs (at x c n w) s) (raise_does p around here vs (at y c n w) s)
@@ -97,8 +114,8 @@ module _ {S T : Type 0} (two : Two S T) (kind : Traits) (keeps : Keeps two kind)
     pub map_sim : IsTrue wr → (exact : Bool) (m : Mode) → is_tests m ≡ ts → (IsFalse (is_tests m) → IsTrue kind.raises)
         → (vs : Values)
         → B (map_does o around here exact m d vs (at x c n w) s) (map_does p around here exact m d vs (at y c n w) s)
-    map_sim e exact m tested h (u ∷ vs) = some_sim two kind keeps n0 w0 s0 (puts_of exact vs) _ _ (λ qs.
-        follows_by_sim two kind keeps n0 w0 s0 calm e x y c n w r m tested h (put_all qs u s)
+    map_sim e exact m tested h (u ∷ vs) = some_sim start (puts_of exact vs) _ _ (λ qs.
+        follows_by_sim start calm e x y c n w r m tested h (put_all qs u s)
         (subst (λ z. W n w z) (sym (put_all_stays qs u s)) g))
     map_sim e exact m tested h [] = sim_bad After.bad
 
@@ -108,13 +125,13 @@ module _ {S T : Type 0} (two : Two S T) (kind : Traits) (keeps : Keeps two kind)
       where
         by : (q : Option Term) → B (found o around here m d (option_held o around here q) (at x c n w) s)
             (found p around here m d (option_held p around here q) (at y c n w) s)
-        by None = found_sim two kind keeps n0 w0 s0 calm x y c n w r s g e m tested None
-        by (Some t) = found_sim two kind keeps n0 w0 s0 calm x y c n w r s g e m tested (Some (term t))
+        by None = found_sim start calm x y c n w r s g e m tested None
+        by (Some t) = found_sim start calm x y c n w r s g e m tested (Some (term t))
     key_sim e m tested _ = sim_bad _
 
     pub element_sim : IsTrue wr → (k : ℕ) (vs : Values)
         → B (element_does o around here k d vs (at x c n w) s) (element_does p around here k d vs (at y c n w) s)
-    element_sim e k (Tm.tuple ts ∷ []) = some_sim two kind keeps n0 w0 s0 (slice_get (listed ts) k) _ _ (λ t. puts e _)
+    element_sim e k (Tm.tuple ts ∷ []) = some_sim start (slice_get (listed ts) k) _ _ (λ t. puts e _)
     element_sim e k _ = sim_bad _
 
     pub cell_sim : IsTrue wr → (first : Bool) (vs : Values)
@@ -124,25 +141,25 @@ module _ {S T : Type 0} (two : Two S T) (kind : Traits) (keeps : Keeps two kind)
 
     pub fun_made_sim : IsTrue wr → (k : ℕ) (vs : Values)
         → B (fun_made o around here k d vs (at x c n w) s) (fun_made p around here k d vs (at y c n w) s)
-    fun_made_sim e k vs = some_sim two kind keeps n0 w0 s0 (slice_get around.arities k) _ _
-        (λ a. when_sim two kind keeps n0 w0 s0 (leb (length vs) a) _ _ (λ l. puts e _))
+    fun_made_sim e k vs = some_sim start (slice_get around.arities k) _ _
+        (λ a. when_sim start (leb (length vs) a) _ _ (λ l. puts e _))
 
     -- Bit strings.
 
     pub start_sim : IsTrue wr → (m : Mode) → is_tests m ≡ ts → (xs : List Held)
         → B (start_does o around here m d xs (at x c n w) s) (start_does p around here m d xs (at y c n w) s)
     start_sim e m tested (context k ∷ []) =
-        gives_sim two kind keeps n0 w0 s0 calm x y c n w r s g e m tested (context k)
+        gives_sim start calm x y c n w r s g e m tested (context k)
     start_sim e m tested (term (Tm.bits bs) ∷ []) =
-        gives_sim two kind keeps n0 w0 s0 calm x y _ n w r s g e m tested (context (length c))
+        gives_sim start calm x y _ n w r s g e m tested (context (length c))
     start_sim e m tested (term t ∷ []) =
-        asked_sim two kind keeps n0 w0 s0 calm x y c n w r s g m tested false (no_and two kind keeps n0 w0 s0 wr)
+        asked_sim start calm x y c n w r s g m tested false (no_and start wr)
     start_sim e m tested _ = sim_bad _
 
     with_sim : (h : Held) (k : ℕ → MatchContext → After S) (l : ℕ → MatchContext → After T)
         → ((i : ℕ) (z : MatchContext) → B (k i z) (l i z))
         → B (with_context o around here (at x c n w) h k) (with_context p around here (at y c n w) h l)
-    with_sim (context i) k l h = some_sim two kind keeps n0 w0 s0 (slice_get c i) (k i) (l i) (h i)
+    with_sim (context i) k l h = some_sim start (slice_get c i) (k i) (l i) (h i)
     with_sim _ k l h = sim_bad _
 
     pub at_sim : (xs : List Held) (k : MatchContext → After S) (l : MatchContext → After T)
@@ -157,7 +174,7 @@ module _ {S T : Type 0} (two : Two S T) (kind : Traits) (keeps : Keeps two kind)
         → ((bs : List Bool) (e : List MatchContext) → B (k bs (at x e n w)) (l bs (at y e n w)))
         → B (took o around here m i z j (at x c n w) s k) (took p around here m i z j (at y c n w) s l)
     took_sim m tested i z None k l h =
-        asked_sim two kind keeps n0 w0 s0 calm x y c n w r s g m tested false (no_and two kind keeps n0 w0 s0 wr)
+        asked_sim start calm x y c n w r s g m tested false (no_and start wr)
     took_sim m tested i z (Some j) k l h = h _ _
 
     pub segment_sim : (f : Shape) (m : Mode) → is_tests m ≡ ts → (xs : List Held) (k : List Bool → Frame S → After S)
@@ -171,34 +188,36 @@ module _ {S T : Type 0} (two : Two S T) (kind : Traits) (keeps : Keeps two kind)
     pub restore_sim : IsFalse wr → (xs : List Held)
         → B (restore_does o around here xs (at x c n w) s) (restore_does p around here xs (at y c n w) s)
     restore_sim e (h ∷ position q ∷ []) =
-        with_sim h _ _ (λ j z. same_on two kind keeps n0 w0 s0 calm e x y _ n w w refl r s g)
+        with_sim h _ _ (λ j z. same_on start calm e x y _ n w w refl r s g)
     restore_sim e _ = sim_bad _
 
   -- Handlers.
 
-  pub close_sim : IsFalse wr → IsFalse kind.looks → IsFalse kind.opens → IsTrue kind.closes → (x : S) (y : T) (c : List MatchContext)
+  pub close_sim : IsFalse wr → IsFalse kind.looks → IsFalse kind.opens → IsTrue kind.closes
+      → (x : S) (y : T) (c : List MatchContext)
       → before (lk w0) x y → (as' : List Arg)
       → B (close_does o around here as' (at x c n0 w0) s0) (close_does p around here as' (at y c n0 w0) s0)
-  close_sim e l f does_so x y c r (var v ∷ []) = outside_sim two kind keeps n0 w0 s0 x y c n0 w0 _ _ (λ i.
-      opt_sim two kind keeps n0 w0 s0 (done false (lk w0)) (o.closes v x) (p.closes v y)
+  close_sim e l f does_so x y c r (var v ∷ []) = outside_sim start x y c n0 w0 _ _ (λ i.
+      opt_sim start (done false (lk w0)) (o.closes v x) (p.closes v y)
       (λ st. next (at st c n0 w0) s0) (λ st. next (at st c n0 w0) s0)
       (subst (λ t. Opt (done false (lk t)) (o.closes v x) (p.closes v y)) (sym i)
       (keeps.closes does_so v x y (subst (λ t. before (lk t) x y) i r)))
       (λ a b q. sim_on l f a b c n0 w0 s0 (subst (λ t. done t (lk w0) a b) (sym e) q) (nowhere l)))
   close_sim e l f does_so x y c r _ = sim_bad _
 
-  pub open_sim : IsFalse wr → IsFalse kind.looks → IsFalse kind.closes → IsTrue kind.opens → (x : S) (y : T) (c : List MatchContext)
+  pub open_sim : IsFalse wr → IsFalse kind.looks → IsFalse kind.closes → IsTrue kind.opens
+      → (x : S) (y : T) (c : List MatchContext)
       → before (lk w0) x y → (m : Mode) → two.mode ≡ m → is_tests m ≡ ts → (z : Option ℕ) → d ≡ z
       → B (open_does o around here m z (at x c n0 w0) s0) (open_does p around here m z (at y c n0 w0) s0)
   open_sim e l f does_so x y c r (tests b) mode tested (Some v) is_dst =
-      outside_sim two kind keeps n0 w0 s0 x y c n0 w0 _ _ (λ i.
-      opt_sim two kind keeps n0 w0 s0 (done false (lk w0)) (o.opens (record { tag = v; landing = b }) x)
+      outside_sim start x y c n0 w0 _ _ (λ i.
+      opt_sim start (done false (lk w0)) (o.opens (record { tag = v; landing = b }) x)
       (p.opens (record { tag = v; landing = b }) y) (λ st. choose true (at st c n0 w0) s0)
       (λ st. choose true (at st c n0 w0) s0)
       (subst (λ t. Opt (done false (lk t)) (o.opens (record { tag = v; landing = b }) x)
       (p.opens (record { tag = v; landing = b }) y)) (sym i)
       (keeps.opens does_so (record { tag = v; landing = b }) is_dst mode x y (subst (λ t. before (lk t) x y) i r)))
-      (λ a z q. sim_pick true (sym tested) f (not_false two kind keeps n0 w0 s0) a z c n0 w0 s0
+      (λ a z q. sim_pick true (sym tested) f (not_false start) a z c n0 w0 s0
       (subst (λ t. done t (lk w0) a z) (sym (ap (λ t. t && true) e)) q) (nowhere l)))
   open_sim e l f does_so x y c r (tests b) mode tested None is_dst = sim_bad After.bad
   open_sim e l f does_so x y c r plain mode tested z is_dst = sim_bad After.bad
@@ -216,18 +235,18 @@ module _ {S T : Type 0} (two : Two S T) (kind : Traits) (keeps : Keeps two kind)
         → rs ≡ s0.replies
         → B (waited o around here t rs (at a c n0 None) s0) (waited p around here t rs (at b c n0 None) s0)
     waited_sim i tested a b r t [] k = sim_over s0 _ as_it_was
-    waited_sim i tested a b r forever (q ∷ rs) k = cleared_pick two kind keeps n0 w0 s0 calm.steady true tested
+    waited_sim i tested a b r forever (q ∷ rs) k = cleared_pick start calm.steady true tested
         (ap (λ z. z && true) e) a b r c n0 _ (none_went i _ (to_reply i (World.wait forever) q rs k))
-    waited_sim i tested a b r (millis m) (q ∷ rs) k = cleared_pick two kind keeps n0 w0 s0 calm.steady
+    waited_sim i tested a b r (millis m) (q ∷ rs) k = cleared_pick start calm.steady
         (new_or q.arrivals false true) tested (ap (λ z. z && new_or q.arrivals false true) e) a b r c n0
         (answered (World.wait (millis m)) q rs s0) (none_went i _ (to_reply i (World.wait (millis m)) q rs k))
 
     waits_sim : w0 ≡ None → IsTrue ts → IsTrue kind.raises → (a : S) (b : T) → cleared a b → (t : Timeout)
         → B (waits_for o around here t (at a c n0 None) s0) (waits_for p around here t (at b c n0 None) s0)
-    waits_sim i tested h a b r now = cleared_pick two kind keeps n0 w0 s0 calm.steady false tested
-        (no_and two kind keeps n0 w0 s0 wr) a b r c n0 s0 (none_went i s0 (nowhere calm.looks))
+    waits_sim i tested h a b r now = cleared_pick start calm.steady false tested
+        (no_and start wr) a b r c n0 s0 (none_went i s0 (nowhere calm.looks))
     waits_sim i tested h a b r (in' t) = waited_sim i tested a b r t s0.replies refl
-    waits_sim i tested h a b r wrong = cleared_up two kind keeps n0 w0 s0 h _ _ a b r c 0 None s0 as_it_was
+    waits_sim i tested h a b r wrong = cleared_up start h _ _ a b r c 0 None s0 as_it_was
 
     pub wait_sim : IsTrue kind.clears → IsTrue kind.raises → (w : Option Message) → w0 ≡ w → before (lk w) x y
         → (m : Mode) → is_tests m ≡ ts → (vs : Values)
@@ -244,7 +263,7 @@ module _ {S T : Type 0} (two : Two S T) (kind : Traits) (keeps : Keeps two kind)
     pub skip_sim : IsTrue kind.clears → (w : Option Message) → w0 ≡ w → before (lk w) x y → (m : Mode)
         → B (skip_does o around here m (at x c n0 w) s0) (skip_does p around here m (at y c n0 w) s0)
     skip_sim t None i r jump = sim_bad After.bad
-    skip_sim t (Some m) i r jump = cleared_on two kind keeps n0 w0 s0 calm e (o.forgets x) (p.forgets y)
+    skip_sim t (Some m) i r jump = cleared_on start calm e (o.forgets x) (p.forgets y)
         (keeps.forgets t true x y r) c (suc n0) _ (to_passing calm.looks m i)
     skip_sim t w i r plain = sim_bad After.bad
     skip_sim t w i r tail = sim_bad After.bad
@@ -255,14 +274,14 @@ module _ {S T : Type 0} (two : Two S T) (kind : Traits) (keeps : Keeps two kind)
     pub bind_sim : before (lk w0) x y → (xs : List Held)
         → B (bind_does o around here xs (at x c n0 w0) s0) (bind_does p around here xs (at y c n0 w0) s0)
     bind_sim r (marker k ∷ term (Tm.reference q) ∷ []) =
-        same_on two kind keeps n0 w0 s0 calm e x y c n0 w0 w0 refl r _ (to_note calm.looks _)
+        same_on start calm e x y c n0 w0 w0 refl r _ (to_note calm.looks _)
     bind_sim r _ = sim_bad _
 
     -- the save place moves
     pub back_sim : IsTrue kind.back → before (lk w0) x y → (k : ℕ) (u : State) → C u
         → B (outside (at x c n0 w0) (next (at x c k w0) u)) (outside (at y c n0 w0) (next (at y c k w0) u))
-    back_sim b r k u g = outside_sim two kind keeps n0 w0 s0 x y c n0 w0 _ _ (λ i.
-        same_on two kind keeps n0 w0 s0 calm e x y c k w0 w0 refl r u (to_place calm.looks b i k u g))
+    back_sim b r k u g = outside_sim start x y c n0 w0 _ _ (λ i.
+        same_on start calm e x y c k w0 w0 refl r u (to_place calm.looks b i k u g))
 
     pub use_sim : IsTrue kind.back → before (lk w0) x y → (vs : Values)
         → B (use_does o around here vs (at x c n0 w0) s0) (use_does p around here vs (at y c n0 w0) s0)
@@ -281,13 +300,13 @@ module _ {S T : Type 0} (two : Two S T) (kind : Traits) (keeps : Keeps two kind)
       (x : S) (y : T) (r : before false x y) (c : List MatchContext) (i : w0 ≡ None) where
     seen_sim : (v : ℕ) → d ≡ Some v → (m : Message) (s : State) → W n0 (Some m) s
         → B (seen o around here v m (at x c n0 None) s) (seen p around here v m (at y c n0 None) s)
-    seen_sim v q m s g = opt_go two kind keeps n0 w0 s0 (done true true) (o.write true v (term m.term) (o.forgets x))
+    seen_sim v q m s g = opt_go start (done true true) (o.write true v (term m.term) (o.forgets x))
         (p.write true v (term m.term) (p.forgets y)) (λ st. next (at st c n0 (Some m)) s)
         (λ st. next (at st c n0 (Some m)) s) (choose true) (choose true)
         (subst (λ k. Opt (done true k) (o.write k v (term m.term) (o.forgets x))
         (p.write k v (term m.term) (p.forgets y))) f
         (keeps.puts_cleared e v (term m.term) q (o.forgets x) (p.forgets y) (keeps.forgets t false x y r)))
-        (λ a b k. sim_pick true tested z.closes (not_false two kind keeps n0 w0 s0) a b c n0 (Some m) s
+        (λ a b k. sim_pick true tested z.closes (not_false start) a b c n0 (Some m) s
         (subst (λ j. done j true a b) (sym (ap (λ j. j && true) e)) k) g)
 
     seen_or_sim : (v : ℕ) → d ≡ Some v → (s : State) (a : After S) (b : After T)
@@ -306,7 +325,7 @@ module _ {S T : Type 0} (two : Two S T) (kind : Traits) (keeps : Keeps two kind)
     looks_sim v q [] k = sim_over s0 _ as_it_was
     looks_sim v q (u ∷ rs) k = seen_or_sim v q (answered World.look u rs s0) _ _
         (λ m j. to_new_message i World.look u rs k m j)
-        (cleared_pick two kind keeps n0 w0 s0 z false tested (no_and two kind keeps n0 w0 s0 wr) (o.forgets x)
+        (cleared_pick start z false tested (no_and start wr) (o.forgets x)
         (p.forgets y) (keeps.forgets t false x y r) c n0 (answered World.look u rs s0)
         (none_went i _ (to_reply i World.look u rs k)))
 
