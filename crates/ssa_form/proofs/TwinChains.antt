@@ -198,6 +198,48 @@ module _ (b : Body) where
         alike = did_given wrote x y f r;
       }
 
+  -- Where the two runs of a chain stand, and how they leave it.
+
+  abbrev pub long : Option Block → ℕ
+  long None = 0
+  long (Some k) = length k.chain
+
+  -- at the end of a block, where its last tests nothing
+  abbrev pub AtLast : ℕ → Bool → Vars → Vars → Type 0
+  AtLast n w x y = IsTrue (tests_nothing (last_of (block_at b n))) → Meet (point n (long (block_at b n))) x y
+
+  -- the last chooses by this set
+  pub record Chose (n : ℕ) (v : Bool) (x y : Vars) : Type 0 where
+    pub at : ℕ
+    pub by : Set
+    pub tested : ℕ
+    pub is_there : set_at b (point n at) ≡ Some (by, tests tested)
+    pub before : List Handler
+    pub vars : List ℕ
+    pub way : Way b (point n at) vars before
+    pub now : x.handlers ≡ picked_handlers v by.op by.dst tested before
+    pub starts : v ≡ false → by.op ≡ Ssa.try_start → ⊥
+    pub var : ℕ
+    pub holds : ℕ
+    pub last : last_of (block_at b n) ≡ Some (succeeded var holds tested)
+    pub handlers : y.handlers ≡ x.handlers
+    pub alike : Alike b (if v then given_vars by ++ vars else vars) x.values y.values
+
+  -- this set raised
+  pub record Rose (n : ℕ) (x y : Vars) : Type 0 where
+    pub at : ℕ
+    pub by : Set
+    pub mode : Mode
+    pub is_there : set_at b (point n at) ≡ Some (by, mode)
+    pub may : IsTrue (may_raise mode by.op)
+    pub meet : Meet (point n at) x y
+
+  module _ (n : ℕ) (k : Block) where
+    -- where the rest of a chain begins; at its end, where the last tests nothing
+    abbrev pub Stand : List Set → ℕ → Vars → Vars → Type 0
+    Stand [] i x y = IsTrue (tests_nothing (Some k.last)) → Meet (point n i) x y
+    Stand (u ∷ us) i x y = Meet (point n i) x y
+
   -- Reading.
 
   module _ (around : Around) (here : Here) (x y : Vars) (c : List MatchContext) (n : ℕ) (w : Option Message)
@@ -235,48 +277,7 @@ module _ (b : Body) where
     acts_so a r h [] x y c n w s i = acted x y c n w s (h (lk w) x y i)
     acts_so a r h (z ∷ zs) x y c n w s i = acted_bad _
 
-    -- The two runs of a chain end alike.
-
-    abbrev pub long : Option Block → ℕ
-    long None = 0
-    long (Some k) = length k.chain
-
-    -- at the end of a block, where its last tests nothing
-    abbrev pub AtLast : ℕ → Bool → Vars → Vars → Type 0
-    AtLast n w x y = IsTrue (tests_nothing (last_of (block_at b n))) → Meet (point n (long (block_at b n))) x y
-
-    -- the last chooses by this set
-    pub record Chose (n : ℕ) (v : Bool) (x y : Vars) : Type 0 where
-      pub at : ℕ
-      pub by : Set
-      pub tested : ℕ
-      pub is_there : set_at b (point n at) ≡ Some (by, tests tested)
-      pub before : List Handler
-      pub vars : List ℕ
-      pub way : Way b (point n at) vars before
-      pub now : x.handlers ≡ picked_handlers v by.op by.dst tested before
-      pub starts : v ≡ false → by.op ≡ Ssa.try_start → ⊥
-      pub var : ℕ
-      pub holds : ℕ
-      pub last : last_of (block_at b n) ≡ Some (succeeded var holds tested)
-      pub handlers : y.handlers ≡ x.handlers
-      pub alike : Alike b (if v then given_vars by ++ vars else vars) x.values y.values
-
-    -- this set raised
-    pub record Rose (n : ℕ) (x y : Vars) : Type 0 where
-      pub at : ℕ
-      pub by : Set
-      pub mode : Mode
-      pub is_there : set_at b (point n at) ≡ Some (by, mode)
-      pub may : IsTrue (may_raise mode by.op)
-      pub meet : Meet (point n at) x y
-
     module _ (n : ℕ) (k : Block) (there : block_at b n ≡ Some k) where
-      -- where the rest of a chain begins; at its end, where the last tests nothing
-      abbrev pub Stand : List Set → ℕ → Vars → Vars → Type 0
-      Stand [] i x y = IsTrue (tests_nothing (Some k.last)) → Meet (point n i) x y
-      Stand (u ∷ us) i x y = Meet (point n i) x y
-
       abbrev L : Bool → Vars → Vars → Type 0
       L = AtLast n
 
@@ -288,11 +289,11 @@ module _ (b : Body) where
         mode = mode_of u.dst us k.before k.last
 
         pub stands : (wrote : Bool) (x y : Vars) → IsFalse (is_try_start u.op) → (wrote ≡ false → IsFalse (writes u.op))
-            → Did (point n i) u mode wrote x y → Stand us (suc i) x y
+            → Did (point n i) u mode wrote x y → Stand n k us (suc i) x y
         stands wrote x y e f r = by us from r
           where
             by : (zs : List Set) → From b n k there (u ∷ zs) i
-                → Did (point n i) u (mode_of u.dst zs k.before k.last) wrote x y → Stand zs (suc i) x y
+                → Did (point n i) u (mode_of u.dst zs k.before k.last) wrote x y → Stand n k zs (suc i) x y
             by [] g r = λ t. next_meet (point n i) u _ (head_there b n k there u [] i g) wrote x y
                 (untested u.dst k.before k.last t) e f r
             by (z ∷ zs) g r = next_meet (point n i) u _ (head_there b n k there u (z ∷ zs) i g) wrote x y refl e f r
@@ -355,7 +356,7 @@ module _ (b : Body) where
           before = λ w. Meet (point n i);
           cleared = Meet (point n i);
           done = λ d w. Did (point n i) u mode d;
-          next = λ w. Stand us (suc i);
+          next = λ w. Stand n k us (suc i);
           raised = Meet (point n i);
           acts = acts_so a (λ w. Meet (point n i)) h u.before;
           reads = λ e x y c j w r. set_reads (point n i) u mode (head_there b n k there u us i from) e x y c j w r;
@@ -374,10 +375,10 @@ module _ (b : Body) where
         }
 
       pub plan : (us : List Set) (i : ℕ) → From b n k there us i → (a : Bool → Vars → Vars → Type 0)
-          → ((w : Bool) (x y : Vars) → a w x y → Stand us i x y)
+          → ((w : Bool) (x y : Vars) → a w x y → Stand n k us i x y)
           → Plan in_vars in_vars around here L P (Rose n) k.before k.before k.last k.last a us us
       plan [] i from a h = at_end a (acts_so a L (λ w x y r t. subst (λ j. Meet (point n j) x y)
           ((let l : i + 0 ≡ length k.chain = from.long in omega (arith, l)) ∙ sym (ap long there))
           (h w x y r (subst (λ l. IsTrue (tests_nothing l)) (ap last_of there) t))) k.before)
       plan (u ∷ us) i from a h = and_set a u u us us (set_plan u us i from a h) refl
-          (plan us (suc i) (tail_from b n k there u us i from) (λ w. Stand us (suc i)) (λ w x y r. r))
+          (plan us (suc i) (tail_from b n k there u us i from) (λ w. Stand n k us (suc i)) (λ w x y r. r))

@@ -34,12 +34,28 @@ Opened (Some e) hs is' = (h : Handler) × (hs ≡ h ∷ is')
 pub data Lands (op : Op) : Type 0 where
   at_landing : op ≡ Ssa.landing → Lands op
   at_catch : op ≡ Ssa.catch_end → Lands op
-  nowhere : is_landing op ≡ false → is_catch_end op ≡ false → Lands op
+  elsewhere : is_landing op ≡ false → is_catch_end op ≡ false → Lands op
 
 lands_at : (op : Op) → Lands op
 lands_at Ssa.landing = at_landing refl
 lands_at Ssa.catch_end = at_catch refl
-lands_at op = nowhere refl refl
+lands_at op = elsewhere refl refl
+
+module _ (b : Body) where
+  -- A block is entered, by an edge or where the body begins.
+
+  pub record Arrives (e : Option Raised) (from n : ℕ) (x y : Vars) : Type 0 where
+    pub before : List ℕ
+    pub inner : List Handler
+    pub opened : Opened e x.handlers inner
+    pub way : Way b (point n 0) (phi_vars (phis_at b n) ++ before) inner
+    pub handlers : y.handlers ≡ x.handlers
+    pub alike : Alike b before x.values y.values
+    pub reads : IsTrue (all_among (phi_reads (phis_at b n) from) before)
+    pub values : IsTrue (none_among (phi_reads (phis_at b n) from) (tags_in b.blocks))
+
+  abbrev pub Arrive : Option Raised → ℕ → ℕ → Bool → Vars → Vars → Type 0
+  Arrive e from n w = Arrives e from n
 
 -- Phis.
 
@@ -78,25 +94,10 @@ module _ (b : Body) (around : Around) (here : Here) (formed : WellFormed b) wher
       by_edge None p q = refl
       by_edge (Some z) p q = ap if_set (held_alike b around here x y c i w vs h z p q)
 
-  -- A block is entered, by an edge or where the body begins.
-
-  pub record Arrives (e : Option Raised) (from n : ℕ) (x y : Vars) : Type 0 where
-    pub before : List ℕ
-    pub inner : List Handler
-    pub opened : Opened e x.handlers inner
-    pub way : Way b (point n 0) (phi_vars (phis_at b n) ++ before) inner
-    pub handlers : y.handlers ≡ x.handlers
-    pub alike : Alike b before x.values y.values
-    pub reads : IsTrue (all_among (phi_reads (phis_at b n) from) before)
-    pub values : IsTrue (none_among (phi_reads (phis_at b n) from) (tags_in b.blocks))
-
-  abbrev pub Arrive : Option Raised → ℕ → ℕ → Bool → Vars → Vars → Type 0
-  Arrive e from n w = Arrives e from n
-
   pub arrives_by : (n m k : ℕ) (hs is' : List Handler) (sets vs : List ℕ) (x y : Vars) (e : Option Raised)
       → Way b (point n k) vs hs → Step b (point n k) hs (point m 0) is' (along_edge b n m sets)
       → Alike b (sets ++ vs) x.values y.values → Opened e x.handlers is' → y.handlers ≡ x.handlers
-      → Arrives e n m x y
+      → Arrives b e n m x y
   arrives_by n m k hs is' sets vs x y e way step alike opened same = record {
     before = sets ++ vs;
     inner = is';
@@ -111,16 +112,16 @@ module _ (b : Body) (around : Around) (here : Here) (formed : WellFormed b) wher
 
   module _ (n : ℕ) (k : Block) (there : block_at b n ≡ Some k) where
     abbrev S : List Set → ℕ → Vars → Vars → Type 0
-    S us i x y = Stand b around here formed n k there us i x y
+    S us i x y = Stand b n k us i x y
 
     abbrev L : Bool → Vars → Vars → Type 0
-    L = AtLast b around here formed n
+    L = AtLast b n
 
     abbrev P : Bool → Bool → Vars → Vars → Type 0
-    P v w = Chose b around here formed n v
+    P v w = Chose b n v
 
     abbrev U : Vars → Vars → Type 0
-    U = Rose b around here formed n
+    U = Rose b n
 
     phis_are : phis_at b n ≡ k.phis
     phis_are = ap (λ o. elim o as (λ z. List Phi) [ None ↦ [] | Some y ↦ y.phis ]) there
@@ -226,7 +227,7 @@ module _ (b : Body) (around : Around) (here : Here) (formed : WellFormed b) wher
             us Falls (Meet b (point n 0)) (S us 1) (falls_close e.tag)
             (puts_stand a us 0 from (ap writes q) (ap is_try_start q) a.dst refl)
             (goes_on us 1 (tail_from b n k there a us 0 from)) x y c i w s (λ v. r)
-        by (nowhere f g) us from = unlanded_sim in_vars in_vars around here L P U e a us g (λ d h vs z. f) k.before
+        by (elsewhere f g) us from = unlanded_sim in_vars in_vars around here L P U e a us g (λ d h vs z. f) k.before
             k.last (at x c i w) s _
 
     -- Entries: phis are written one after the other, and these are left.
@@ -240,7 +241,7 @@ module _ (b : Body) (around : Around) (here : Here) (formed : WellFormed b) wher
           → IsFalse (among v (tags_in b.blocks)) → x.values v ≡ y.values v
 
     all_left : (e : Option Raised) (from : ℕ) (x y : Vars) (hs : List (ℕ × Held))
-        → written hs ≡ phi_vars (phis_at b n) → Arrives e from n x y → Left e hs x y
+        → written hs ≡ phi_vars (phis_at b n) → Arrives b e from n x y → Left e hs x y
     all_left e from x y hs q r = record {
       before = r.before;
       inner = r.inner;
@@ -299,9 +300,9 @@ module _ (b : Body) (around : Around) (here : Here) (formed : WellFormed b) wher
         landed_out k.chain (all_from b n k there) e x y c i w s (left_falls e x y r)
 
     pub entry_plan : (e : Option Raised) (from : ℕ)
-        → EntryPlan in_vars in_vars around here L P U from n k k e (Arrive e from n)
+        → EntryPlan in_vars in_vars around here L P U from n k k e (Arrive b e from n)
     entry_plan e from = record {
-      inside = Arrive e from n;
+      inside = Arrive b e from n;
       left = λ hs w. Left e hs;
       phis = refl;
       arrives = λ w x y r. opt_some x y r;

@@ -50,13 +50,13 @@ back_tests (ret z) h = refl
 module _ (b : Body) (around : Around) (here : Here) (formed : WellFormed b) where
   module _ (n : ℕ) (k : Block) (there : block_at b n ≡ Some k) where
     abbrev L : Bool → Vars → Vars → Type 0
-    L = AtLast b around here formed n
+    L = AtLast b n
 
     abbrev P : Bool → Bool → Vars → Vars → Type 0
-    P v w = Chose b around here formed n v
+    P v w = Chose b n v
 
     abbrev U : Vars → Vars → Type 0
-    U = Rose b around here formed n
+    U = Rose b n
 
     last_there : last_of (block_at b n) ≡ Some k.last
     last_there = ap last_of there
@@ -72,7 +72,7 @@ module _ (b : Body) (around : Around) (here : Here) (formed : WellFormed b) wher
     -- behind all sets
     last_meet : (w : Bool) (x y : Vars) → IsTrue (tests_nothing (Some k.last)) → L w x y
         → Meet b (point n (length k.chain)) x y
-    last_meet w x y t r = subst (λ o. Meet b (point n (long b around here formed o)) x y) there
+    last_meet w x y t r = subst (λ o. Meet b (point n (long b o)) x y) there
         (r (subst (λ o. IsTrue (tests_nothing o)) (sym last_there) t))
 
     last_reads : (a : Arg) → read_by k.last ≡ Some a → (x y : Vars) (c : List MatchContext) (i : ℕ)
@@ -91,10 +91,9 @@ module _ (b : Body) (around : Around) (here : Here) (formed : WellFormed b) wher
         (formed.values (point n (length k.chain)) x.handlers (r.vars, r.way)))))
 
     last_leads : (t : ℕ) → Contains (targets k.last) t → (x y : Vars) → Meet b (point n (length k.chain)) x y
-        → Arrives b around here formed None n t x y
-    last_leads t q x y r = arrives_by b around here formed n t
-        (length k.chain) x.handlers x.handlers [] r.vars x y None r.way
-        (leads (point n (length k.chain)) x.handlers k.last t last_is q) r.alike refl r.handlers
+        → Arrives b None n t x y
+    last_leads t q x y r = arrives_by b around here formed n t (length k.chain) x.handlers x.handlers [] r.vars x y None
+        r.way (leads (point n (length k.chain)) x.handlers k.last t last_is q) r.alike refl r.handlers
 
     leave_both : (x y : Vars) → y.handlers ≡ x.handlers
         → Opt (λ a z. Unit {0}) (vars_leave ends_body x) (vars_leave ends_body y)
@@ -106,7 +105,7 @@ module _ (b : Body) (around : Around) (here : Here) (formed : WellFormed b) wher
         by true = opt_some x y tt
         by false = opt_none None
 
-    last_plan : LastPlan in_vars in_vars around here (Arrive b around here formed) n k.last L
+    last_plan : LastPlan in_vars in_vars around here (Arrive b) n k.last L
     last_plan = record {
       reads = λ a q x y c i w r.
           last_reads a q x y c i w (last_meet (lk w) x y (read_tests k.last a q).0 r);
@@ -117,58 +116,55 @@ module _ (b : Body) (around : Around) (here : Here) (formed : WellFormed b) wher
 
     -- A set that is tested chooses, or a set raises.
 
-    picks_arrive : (d : Bool) (x y : Vars) → (r : Chose b around here formed n d x y)
-        → Arrives b around here formed None n (picked d r.holds r.tested) x y
-    picks_arrive true x y r = arrives_by b around here formed n r.holds r.at r.before _
-        (given_vars r.by) r.vars x y None r.way
+    picks_arrive : (d : Bool) (x y : Vars) → (r : Chose b n d x y)
+        → Arrives b None n (picked d r.holds r.tested) x y
+    picks_arrive true x y r = arrives_by b around here formed n r.holds r.at r.before _ (given_vars r.by) r.vars x y
+        None r.way
         (succeeds (point n r.at) r.before r.by r.var r.holds r.tested r.is_there r.last) r.alike r.now r.handlers
     picks_arrive false x y r = arrives_by b around here formed n r.tested r.at r.before _ [] r.vars x y None r.way
         (fails (point n r.at) r.before r.by r.tested r.is_there (r.starts refl)) r.alike r.now r.handlers
 
-    pick_there : (d : Bool) (x y : Vars) → (r : Chose b around here formed n d x y) → (q t e : ℕ)
-        → k.last ≡ succeeded q t e → Arrives b around here formed None n (picked d t e) x y
+    pick_there : (d : Bool) (x y : Vars) → (r : Chose b n d x y) → (q t e : ℕ)
+        → k.last ≡ succeeded q t e → Arrives b None n (picked d t e) x y
     pick_there d x y r q t e i = let z : succeeded r.var r.holds r.tested ≡ succeeded q t e =
         some_is _ _ (sym r.last ∙ last_there ∙ ap (λ l. Some l) i) in
         let f : r.holds ≡ t = cc in
         let g : r.tested ≡ e = cc in
-        subst (λ m. Arrives b around here formed None n m x y) (λ j. picked d (f j) (g j)) (picks_arrive d x y r)
+        subst (λ m. Arrives b None n m x y) (λ j. picked d (f j) (g j)) (picks_arrive d x y r)
 
     first_is : (h : Handler) (hs : List Handler) → first_handler hs ≡ Some h → (is' : List Handler) × (hs ≡ h ∷ is')
     first_is h [] e = absurd cc
     first_is h (z ∷ zs) e = (zs, ap (λ x. x ∷ zs) (some_is z h e))
 
-    rises_to : (x y : Vars) → (r : Rose b around here formed n x y) → (h : Handler)
+    rises_to : (x y : Vars) → (r : Rose b n x y) → (h : Handler)
         → first_handler x.handlers ≡ Some h → (q : Class) (t : Term)
-        → Arrives b around here formed (Some (record { tag = h.tag; class = q; reason = t })) n h.landing x y
+        → Arrives b (Some (record { tag = h.tag; class = q; reason = t })) n h.landing x y
     rises_to x y r h e q t = let z : (is' : List Handler) × (x.handlers ≡ h ∷ is') = first_is h x.handlers e in
         arrives_by b around here formed n h.landing r.at (h ∷ z.0) z.0 [] r.meet.vars x y
         (Some (record { tag = h.tag; class = q; reason = t }))
         (subst (Way b (point n r.at) r.meet.vars) z.1 r.meet.way)
         (raises (point n r.at) h z.0 r.by r.mode r.is_there r.may) r.meet.alike (h, z.1) r.meet.handlers
 
-    block_plan : BlockPlan in_vars in_vars around here b b (Arrive b around here formed) (AtLast b around here formed)
-        (λ m v w. Chose b around here formed m v) (Rose b around here formed) n k k
+    block_plan : BlockPlan in_vars in_vars around here b b (Arrive b) (AtLast b) (λ m v w. Chose b m v) (Rose b) n k k
     block_plan = record {
       enters = λ e from x y c sv w s r.
-          entry_sim in_vars in_vars around here L P U from n k k e (Arrive b around here formed e from n)
+          entry_sim in_vars in_vars around here L P U from n k k e (Arrive b e from n)
           (entry_plan b around here formed n k there e from) x y c sv w s r;
       goes = λ go go' alike x y c sv w s r.
-          last_sim in_vars in_vars around here (Arrive b around here formed) n k.last L last_plan go go' alike x y c
-          sv w s r;
+          last_sim in_vars in_vars around here (Arrive b) n k.last L last_plan go go' alike x y c sv w s r;
       last = refl;
       picks = λ d w x y r q t e i. pick_there d x y r q t e i;
       handler = λ x y r. ap first_handler r.meet.handlers;
       raises = λ x y r h e q t. rises_to x y r h e q t;
     }
 
-  blocks_match : (n : ℕ) → BlockMatch in_vars in_vars around here b b (Arrive b around here formed)
-      (AtLast b around here formed)
-      (λ m v w. Chose b around here formed m v) (Rose b around here formed) n (block_at b n) (block_at b n)
+  abbrev Matches : ℕ → Option Block → Option Block → Type 0
+  Matches n o q = BlockMatch in_vars in_vars around here b b (Arrive b) (AtLast b) (λ m v w. Chose b m v) (Rose b) n o q
+
+  blocks_match : (n : ℕ) → Matches n (block_at b n) (block_at b n)
   blocks_match n = by (block_at b n) refl
     where
-      by : (o : Option Block) → block_at b n ≡ o → BlockMatch in_vars in_vars around here b b
-          (Arrive b around here formed)
-          (AtLast b around here formed) (λ m v w. Chose b around here formed m v) (Rose b around here formed) n o o
+      by : (o : Option Block) → block_at b n ≡ o → Matches n o o
       by None e = no_block None
       by (Some k) e = both_blocks k k (block_plan n k e)
 
@@ -176,9 +172,8 @@ module _ (b : Body) (around : Around) (here : Here) (formed : WellFormed b) wher
   follows_so : (k : ℕ) (X Y : ℕ → Held) (c : List MatchContext) (s : State) → Alike b b.params X Y
       → Same (blocks in_vars around here b k None 0 0 (at (record { values = X; handlers = [] }) c 0 None) s)
       (blocks in_vars around here b k None 0 0 (at (record { values = Y; handlers = [] }) c 0 None) s)
-  follows_so k X Y c s h = run_sim in_vars in_vars around here b b (Arrive b around here formed)
-      (AtLast b around here formed)
-      (λ m v w. Chose b around here formed m v) (Rose b around here formed) blocks_match k None 0 0
+  follows_so k X Y c s h = run_sim in_vars in_vars around here b b (Arrive b) (AtLast b)
+      (λ m v w. Chose b m v) (Rose b) blocks_match k None 0 0
       (record { values = X; handlers = [] }) (record { values = Y; handlers = [] }) c 0 None s (record {
         before = b.params;
         inner = [];
