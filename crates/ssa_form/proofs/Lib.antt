@@ -11,8 +11,8 @@ mod Turns
 mod Cycles
 mod SpotHandlers
 pub mod RunsEnd
-pub mod LawfulOps
-pub mod LawfulRuns
+pub mod StateOps
+pub mod StateRuns
 pub mod OneResult
 mod WholeBodies
 mod LiveSteps

@@ -2,26 +2,26 @@
 -- One walk over the operations tells it (`TwoDoes`); all that is asked of such a run follows from it by a few cases.
 use Rattle.std.proofs.Common.{◌≡◌, ◌≤◌, ◌<◌, ℕ, suc, ◌+◌, ◌-◌, List, [], ◌∷◌, length, Bool, true, false, Option, Some, None, refl, sym, ap, ◌∙◌, arith, IsTrue, IsFalse, eqb, if◌then◌else◌, zero, slice_get}
 use Rattle.std.proofs.lemmas.Option.{slice_get_within}
-use Rattle.erl_term.specs.Term.{Term}
+use Rattle.erl_term.specs.Term.{Term, Class}
 use Rattle.erl_term.specs.Terms.{Values}
 use Rattle.world_model.specs.World as World
 use Rattle.world_model.specs.World.{Request, Reply, Message}
 use Rattle.world_model.specs.Run.{Note, happened, looked, State, M, ◌>>=◌, ask, answered, noting}
 use Rattle.world_model.specs.Meaning.{single}
 use Rattle.world_model.specs.Receive.{without}
-use Rattle.world_model.specs.Requests.{send_to}
+use Rattle.world_model.specs.Requests.{send_to, exit_of}
 use Rattle.world_model.specs.RemoteCalls.{call_terms, apply_term}
 use Rattle.step_machine.specs.Bodies.{Here, calling, callees}
 use Rattle.step_machine.specs.EntryBound.{Lowers}
 use Rattle.step_machine.specs.Frames.{MatchContext}
 use Rattle.pass_contract.specs.Lawful.{Lawful, IsLawful}
 use Rattle.pass_contract.proofs.Modules.{lawful_itself}
-use Rattle.pass_contract.proofs.LawfulSteps.{noting_lawful, answered_lawful, taken_lawful}
-use Rattle.pass_contract.proofs.LawfulMeanings.{Goes, remote_goes, trace_goes, send_goes, call_goes, apply_goes}
+use Rattle.pass_contract.proofs.LawfulSteps.{lawful_twice, noting_lawful, answered_lawful, taken_lawful}
+use Rattle.pass_contract.proofs.LawfulMeanings.{Goes, remote_goes, trace_goes, send_goes, call_goes, apply_goes, exit_goes}
 use Rattle.ssa_form.specs.Storage.{Frame, Around}
 use Rattle.ssa_form.proofs.Rank.{Rank, Lower, by_left, by_replies, by_ahead, by_mailbox, AtMost, lower, same, closed, rank}
 use Rattle.ssa_form.proofs.OpenHandlers.{some_is}
-use Rattle.ssa_form.proofs.Spending.{Uses, entry, reply, nothing, Spends, uses_low, bind_spends, ask_spends, give_spends, send_spends, remote_spends, call_spends, applied_spends}
+use Rattle.ssa_form.proofs.Spending.{Uses, entry, reply, nothing, Spends, uses_low, bind_spends, ask_spends, give_spends, send_spends, remote_spends, call_spends, applied_spends, exit_spends}
 
 abbrev pub at : {X : Type 0} → X → List MatchContext → ℕ → Option Message → Frame X
 at x c n w = record { store = x; contexts = c; save = n; window = w }
@@ -38,13 +38,14 @@ abbrev pub passing : Message → State → State
 passing m s = noting (looked (record { serial = m.serial; accepted = false })) s
 
 module _ (around : Around) (here : Here) where
-  -- the meanings that operations run
+  -- the meanings that operations and landings run
   pub data Meant : M Values → Type 0 where
     of_call : (n : ℕ) (t : Bool) (vs : Values) → Meant (calling here n t vs >>= single)
     of_term : (t : Term) (vs : Values) → Meant (apply_term (callees around.arities here) t vs)
     of_names : (m f : Term) (vs : Values) → Meant (call_terms here.own m f vs)
     of_send : (to message : Term) → Meant (send_to to message)
     of_trace : Meant (ask World.trace >>= λ r. single r.term)
+    of_exit : (c : Class) (r : Term) → Meant (exit_of c r)
 
   -- which state came of one
   pub data Came (s : State) : State → Type 0 where
@@ -90,13 +91,23 @@ module _ (around : Around) (here : Here) where
   meant_goes l _ (of_names m f vs) = remote_goes here.own m f vs
   meant_goes l _ (of_send to message) = send_goes to message
   meant_goes l _ of_trace = trace_goes
+  meant_goes l _ (of_exit c r) = exit_goes c r
 
-  pub came_lawful : IsLawful here.enter → (s u : State) → Came s u → Lawful s u
+  -- a relation that every change of a run keeps
+  pub record Kept (R : State → State → Type 0) : Type 0 where
+    pub itself : (s : State) → R s s
+    pub twice : (s u v : State) → R s u → R u v → R s v
+    pub comes : (s u : State) → Came s u → R s u
+
+  came_lawful : IsLawful here.enter → (s u : State) → Came s u → Lawful s u
   came_lawful l s _ as_it_was = lawful_itself s
   came_lawful l s _ (by_note n) = noting_lawful n s
   came_lawful l s _ (by_reply q r rs e) = answered_lawful q r rs s
   came_lawful l s _ (by_meaning m g) = (meant_goes l m g).at s
   came_lawful l s _ (by_taking m) = taken_lawful m s
+
+  pub lawful_kept : IsLawful here.enter → Kept Lawful
+  lawful_kept l = record { itself = lawful_itself; twice = lawful_twice; comes = came_lawful l }
 
   meant_spends : Lowers here.enter → (m : M Values) → Meant m → Spends m
   meant_spends l _ (of_call n t vs) = call_spends around here l n t vs
@@ -104,13 +115,25 @@ module _ (around : Around) (here : Here) where
   meant_spends l _ (of_names m f vs) = remote_spends here.own m f vs
   meant_spends l _ (of_send to message) = send_spends to message
   meant_spends l _ of_trace = bind_spends _ _ (ask_spends World.trace) (λ r. give_spends _)
+  meant_spends l _ (of_exit c r) = exit_spends c r
 
-  pub came_low : Lowers here.enter → (s u : State) → Came s u → u.left ≤ s.left
+  came_low : Lowers here.enter → (s u : State) → Came s u → u.left ≤ s.left
   came_low l s _ as_it_was = omega arith
   came_low l s _ (by_note n) = omega arith
   came_low l s _ (by_reply q r rs e) = omega arith
   came_low l s _ (by_meaning m g) = uses_low s (m s).0 ((meant_spends l m g).at s)
   came_low l s _ (by_taking m) = omega arith
+
+  -- it has no more entries left
+  abbrev pub LeftLess : State → State → Type 0
+  LeftLess s u = u.left ≤ s.left
+
+  pub lowers_kept : Lowers here.enter → Kept LeftLess
+  lowers_kept l = record {
+    itself = λ s. omega arith;
+    twice = λ s u v p q. omega (arith, p, q);
+    comes = came_low l;
+  }
 
 -- What holds of the save place, and of the rank.
 

@@ -1,6 +1,6 @@
 -- What every operation leaves: the handlers that the flow tells, and no higher rank, where it breaks no cycle. It is
 -- what the walk over operations tells of a storage that keeps track of handlers.
-use Rattle.std.proofs.Common.{◌≡◌, ◌≤◌, ℕ, List, ◌∷◌, drop, Bool, true, false, Option, Some, None, refl, sym, ap, ◌∙◌, IsTrue, IsFalse}
+use Rattle.std.proofs.Common.{◌≡◌, ℕ, List, ◌∷◌, drop, Bool, true, false, Option, Some, None, refl, sym, ap, ◌∙◌, IsTrue, IsFalse}
 use Rattle.world_model.specs.Run.{State}
 use Rattle.step_machine.specs.EntryBound.{Lowers}
 use Rattle.ssa_form.specs.Ssa as Ssa
@@ -14,7 +14,7 @@ use Rattle.ssa_form.specs.Storage.{Storage, Around}
 use Rattle.ssa_form.specs.SetFacts.{is_try_start}
 use Rattle.ssa_form.proofs.Rank.{Lower, AtMost, rank, Fits}
 use Rattle.ssa_form.proofs.OpenHandlers.{Tracks}
-use Rattle.ssa_form.proofs.Moves.{came, came_low, went_stands, went_falls, went_lower}
+use Rattle.ssa_form.proofs.Moves.{went_stands, went_falls, went_lower}
 use Rattle.ssa_form.proofs.TwoStorages.{is_back, is_try_end, writes, traits, Sim, sim_on, sim_pick, sim_up, sim_over, sim_bad}
 use Rattle.ssa_form.proofs.OneStorage.{One, Leaves, beside, one_does}
 
@@ -25,7 +25,6 @@ picked_handlers false op dst e hs = hs
 module _ {S : Type 0} (open_in : S → List Handler) (op : Op) (m : Mode) (dst : Option ℕ) (f : Frame S) (s : State) where
   -- the next set follows
   pub record Passes (g : Frame S) (u : State) : Type 0 where
-    pub low : u.left ≤ s.left
     pub handlers : open_in g.store ≡ after_op op (open_in f.store)
     pub fits : Fits g u
     pub falls : IsFalse (breaks_cycle op) → AtMost (rank g u) (rank f s)
@@ -33,7 +32,6 @@ module _ {S : Type 0} (open_in : S → List Handler) (op : Op) (m : Mode) (dst :
 
   -- the last chooses between its blocks
   pub record Picks (c : Bool) (g : Frame S) (u : State) : Type 0 where
-    pub low : u.left ≤ s.left
     pub tested : ℕ
     pub mode : m ≡ tests tested
     pub handlers : open_in g.store ≡ picked_handlers c op dst tested (open_in f.store)
@@ -43,7 +41,6 @@ module _ {S : Type 0} (open_in : S → List Handler) (op : Op) (m : Mode) (dst :
     pub looks : IsTrue (is_peek op) → Lower (rank g u) (rank f s)
 
   pub record Raises (g : Frame S) (u : State) : Type 0 where
-    pub low : u.left ≤ s.left
     pub handlers : open_in g.store ≡ open_in f.store
     pub may : IsTrue (may_raise m op)
 
@@ -51,7 +48,7 @@ module _ {S : Type 0} (open_in : S → List Handler) (op : Op) (m : Mode) (dst :
   Steps (next g u) = Passes g u
   Steps (choose c g u) = Picks c g u
   Steps (raise c x g u) = Raises g u
-  Steps (finish u q) = u.left ≤ s.left
+  Steps (finish u q) = Unit {0}
   Steps After.bad = Unit {0}
 
 -- The handlers that it leaves.
@@ -153,14 +150,12 @@ module _ {S : Type 0} (o : Storage S) (around : Around) (here : Here) (lowers : 
         → Sim (beside (tracked hs0) (traits m op) (tracked_leaves hs0)) (traits m op) f.save f.window s a z
         → Steps open_in op m dst f s a
     steps_of _ _ (sim_on l q x y c n w u r g) = record {
-      low = came_low around here lowers s u (came around here _ _ f.save f.window s n w u g);
       handlers = r.holds ∙ left_after op m dst hs0 q;
       fits = went_stands around here _ _ f.save f.window s n w u g fits;
       falls = λ b. went_falls around here _ _ f.save f.window s lowers (unbroken op b) fits n w u g;
       no_look = l;
     }
     steps_of _ _ (sim_pick b t k q x y c n w u r g) = record {
-      low = came_low around here lowers s u (came around here _ _ f.save f.window s n w u g);
       tested = (tested_at m t).0;
       mode = (tested_at m t).1;
       handlers = picked b (open_in x) (tested_at m t).0 (tested_at m t).1 k q r.holds;
@@ -170,8 +165,8 @@ module _ {S : Type 0} (o : Storage S) (around : Around) (here : Here) (lowers : 
       looks = λ i. went_lower around here _ _ f.save f.window s i n w u g;
     }
     steps_of _ _ (sim_up t k v x y c n w u r g) =
-        record { low = came_low around here lowers s u g; handlers = r.holds; may = t }
-    steps_of _ _ (sim_over u q g) = came_low around here lowers s u g
+        record { handlers = r.holds; may = t }
+    steps_of _ _ (sim_over u q g) = tt
     steps_of _ _ (sim_bad z) = tt
 
     pub steps : (args : List Arg) (hs : List Held)

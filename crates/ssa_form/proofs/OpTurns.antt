@@ -1,5 +1,5 @@
 -- What a quiet part of a run leaves: the handlers as they were, and no higher rank.
-use Rattle.std.proofs.Common.{◌≡◌, ◌≤◌, ℕ, suc, List, ◌∷◌, length, Bool, true, false, ◌&&◌, Option, Some, None, refl, sym, ap, ◌∙◌, arith}
+use Rattle.std.proofs.Common.{◌≡◌, ℕ, suc, List, ◌∷◌, length, Bool, true, false, ◌&&◌, Option, Some, None, refl, sym, ap, ◌∙◌, arith}
 use Rattle.world_model.specs.World as W
 use Rattle.world_model.specs.World.{Reply, Message, Delay, forever, millis}
 use Rattle.world_model.specs.Run.{State, answered}
@@ -8,12 +8,11 @@ use Rattle.ssa_form.specs.Storage.{Held, Handler, Storage, Frame, After, next, A
 use Rattle.ssa_form.specs.Operations.{put}
 use Rattle.ssa_form.proofs.Rank.{AtMost, same, most_twice, rank, Fits}
 use Rattle.ssa_form.proofs.OpenHandlers.{Tracks}
-use Rattle.ssa_form.proofs.Spending.{Uses, reply, uses_low}
+use Rattle.ssa_form.proofs.Spending.{Uses, reply}
 use Rattle.ssa_form.proofs.Moves.{uses_most}
 
 pub record Eases {S : Type 0} (open_in : S → List Handler) (f : Frame S) (s : State) (g : Frame S)
     (u : State) : Type 0 where
-  pub low : u.left ≤ s.left
   pub handlers : open_in g.store ≡ open_in f.store
   pub fits : Fits f s → Fits g u
   pub falls : AtMost (rank g u) (rank f s)
@@ -24,7 +23,7 @@ OnlyOn open_in f s After.bad = Unit {0}
 OnlyOn open_in f s _ = ⊥
 
 pub eased : {S : Type 0} (open_in : S → List Handler) (f : Frame S) (s : State) → Eases open_in f s f s
-eased open_in f s = record { low = omega arith; handlers = refl; fits = λ h. h; falls = same refl refl refl refl }
+eased open_in f s = record { handlers = refl; fits = λ h. h; falls = same refl refl refl refl }
 
 pub none_some : {A : Type 0} (o : Option A) (a : A) → o ≡ None → o ≡ Some a → ⊥
 none_some o a e f = let g : None ≡ Some a = sym e ∙ f in cc
@@ -73,11 +72,10 @@ module _ {S : Type 0} (w : Walk S) where
 
   pub kept_eased : (f : Frame S) (s : State) (st : S) → Eased f s → w.open_in st ≡ w.open_in f.store
       → Eased (kept f st) s
-  kept_eased f s st e q = record { low = e.low; handlers = q ∙ e.handlers; fits = e.fits; falls = e.falls }
+  kept_eased f s st e q = record { handlers = q ∙ e.handlers; fits = e.fits; falls = e.falls }
 
   pub uses_eased : (f : Frame S) (s u : State) → Eased f s → f.window ≡ None → Uses s u → Eased f u
   uses_eased f s u e v x = record {
-    low = let l : u.left ≤ s.left = uses_low s u x in let m : s.left ≤ w.s0.left = e.low in omega (arith, l, m);
     handlers = e.handlers;
     fits = λ h m p. absurd (none_some f.window m v p);
     falls = most_twice _ _ _ (uses_most f.save f.window s u x) e.falls;
