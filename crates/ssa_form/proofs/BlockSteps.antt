@@ -20,7 +20,7 @@ use Rattle.ssa_form.specs.Operations.{put, follows}
 use Rattle.ssa_form.specs.SsaRun.{Raised, is_landing, is_catch_end, lands, ends_catch, chain_does, phi_values, put_each, closed, catches, landed, begins, entered_by}
 use Rattle.ssa_form.proofs.Rank.{most_twice, then_most, same, Fits}
 use Rattle.ssa_form.proofs.OpenHandlers.{Tracks}
-use Rattle.ssa_form.proofs.OpTurns.{some_holds, when_holds, outside_holds, Eases, eased, OnlyOn, uses_eased, put_only, and_first, answered_uses}
+use Rattle.ssa_form.proofs.Eases.{some_holds, when_holds, outside_holds, Eases, eased, OnlyOn, uses_eased, put_only, and_first, answered_uses}
 use Rattle.ssa_form.proofs.ChainSteps.{From, all_from, tail_from, At, at_next, Chained, chain_steps}
 
 pub and_second : (a b : Bool) → (a && b) ≡ true → b ≡ true

@@ -13,7 +13,7 @@ use Rattle.ssa_form.specs.Operations.{all_held, does}
 use Rattle.ssa_form.specs.SsaRun.{is_dst, mode_of, acts_do, set_does, chain_does}
 use Rattle.ssa_form.proofs.Rank.{Lower, AtMost, then_most, most_twice, rank, Fits}
 use Rattle.ssa_form.proofs.OpenHandlers.{Tracks}
-use Rattle.ssa_form.proofs.OpTurns.{some_holds, Eases, eased, OnlyOn}
+use Rattle.ssa_form.proofs.Eases.{some_holds, Eases, eased, OnlyOn}
 use Rattle.ssa_form.proofs.OpSteps.{picked_handlers, Steps, Passes, steps}
 
 -- One way of looking after another.

@@ -3,7 +3,7 @@ mod Rank
 mod OpenHandlers
 mod Spending
 pub mod Moves
-mod OpTurns
+mod Eases
 mod OpSteps
 mod ChainSteps
 mod BlockSteps

@@ -124,7 +124,7 @@ module _ (around : Around) (here : Here) where
   came_low l s _ (by_meaning m g) = uses_low s (m s).0 ((meant_spends l m g).at s)
   came_low l s _ (by_taking m) = omega arith
 
-  -- it has no more entries left
+  -- no more entries are left
   abbrev pub LeftLess : State → State → Type 0
   LeftLess s u = u.left ≤ s.left
 

@@ -19,7 +19,7 @@ use Rattle.ssa_form.specs.WellFormed.{CycleRule}
 use Rattle.ssa_form.specs.RunLaws.{IsOver, RunsEnd, RunsLower}
 use Rattle.ssa_form.proofs.OpenHandlers.{Tracks, vars_track}
 use Rattle.ssa_form.proofs.SpotHandlers.{registers_track, params_keep, stack_track, open_tags, stack_params_keep, first_untagged}
-use Rattle.ssa_form.proofs.OpTurns.{none_some}
+use Rattle.ssa_form.proofs.Eases.{none_some}
 use Rattle.ssa_form.proofs.Turns.{Config, Good}
 use Rattle.ssa_form.proofs.Cycles.{is_over_soon}
 use Rattle.ssa_form.proofs.StateRuns.{body_lowers}

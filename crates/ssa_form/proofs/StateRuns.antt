@@ -73,7 +73,8 @@ module _ {S : Type 0} (o : Storage S) (around : Around) (here : Here) (R : State
           else catches o around here as' z (x ∷ y ∷ w ∷ xs) e f s)
       by true = closed_ends e.tag f _ (λ g. then_ends o around here R kept_so s0 _ _
           (put_ends o around here R kept_so s0 x.dst (term (class_word e.class)) g s l)
-          (λ h u i. then_ends o around here R kept_so s0 _ _ (put_ends o around here R kept_so s0 y.dst (term e.reason) h u i)
+          (λ h u i. then_ends o around here R kept_so s0 _ _
+          (put_ends o around here R kept_so s0 y.dst (term e.reason) h u i)
           (λ j v k. then_ends o around here R kept_so s0 _ _
           (put_ends o around here R kept_so s0 w.dst (term (T.raw_trace e.class)) j v k)
           (λ q t m. chain_ends as' z xs q t m))))

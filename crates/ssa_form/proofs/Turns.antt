@@ -19,7 +19,7 @@ use Rattle.ssa_form.specs.Operations.{held, forgotten}
 use Rattle.ssa_form.specs.SsaRun.{Raised, lands, ends_catch, truth_in, picked, choice_of, landed, put_each, phi_values, begins, entered_by, goes_by, switched, ended, returned, leave_next, leave_choose, raised_to, either_end, unless_looking, leave, block_does, blocks, first_handler}
 use Rattle.ssa_form.proofs.Rank.{Lower, AtMost, rank, Fits}
 use Rattle.ssa_form.proofs.OpenHandlers.{Tracks, some_is}
-use Rattle.ssa_form.proofs.OpTurns.{eased, some_holds, when_holds, outside_holds, none_some}
+use Rattle.ssa_form.proofs.Eases.{eased, some_holds, when_holds, outside_holds, none_some}
 use Rattle.ssa_form.proofs.ChainSteps.{Tested, Through, Chosen, Risen, Chained}
 use Rattle.ssa_form.proofs.BlockSteps.{only_then, lands_breaks, Came, puts_only, entered_steps}
 

@@ -14,7 +14,7 @@ use Rattle.ssa_form.specs.WellFormed.{WellFormed, tags_in}
 use Rattle.ssa_form.specs.SsaRun as Run
 use Rattle.ssa_form.specs.SsaRun.{Raised, Vars, in_vars, is_landing, is_catch_end, mode_of, from_edge, if_set, with_phi, arg_held, phi_values, picked, chain_does, lands, landed, first_handler, no_handlers, only_if, without_first, with_handlers, vars_leave, blocks, params_hold, ssa_run}
 use Rattle.ssa_form.proofs.OpenHandlers.{some_is, none_is}
-use Rattle.ssa_form.proofs.OpTurns.{and_first}
+use Rattle.ssa_form.proofs.Eases.{and_first}
 use Rattle.ssa_form.proofs.BlockSteps.{and_second, lands_op}
 use Rattle.ssa_form.proofs.ChainSteps.{From, all_from, tail_from}
 use Rattle.ssa_form.proofs.VarLists.{among_append, all_first, all_second, none_first, none_second}

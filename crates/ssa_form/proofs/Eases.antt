@@ -11,12 +11,14 @@ use Rattle.ssa_form.proofs.OpenHandlers.{Tracks}
 use Rattle.ssa_form.proofs.Spending.{Uses, reply}
 use Rattle.ssa_form.proofs.Moves.{uses_most}
 
+-- the handlers stay, the message that is looked at stands at the save place if it did, and the rank does not rise
 pub record Eases {S : Type 0} (open_in : S → List Handler) (f : Frame S) (s : State) (g : Frame S)
     (u : State) : Type 0 where
   pub handlers : open_in g.store ≡ open_in f.store
   pub fits : Fits f s → Fits g u
   pub falls : AtMost (rank g u) (rank f s)
 
+-- it goes on so, or broke a rule
 abbrev pub OnlyOn : {S : Type 0} → (S → List Handler) → Frame S → State → After S → Type 0
 OnlyOn open_in f s (next g u) = Eases open_in f s g u
 OnlyOn open_in f s After.bad = Unit {0}
