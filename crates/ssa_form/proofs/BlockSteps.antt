@@ -1,5 +1,5 @@
 -- What a block leaves: from where it is entered, by a raise too, to the end of its chain.
-use Rattle.std.proofs.Common.{◌≡◌, ◌≤◌, ℕ, List, [], ◌∷◌, Bool, true, false, ◌&&◌, ◌||◌, Option, Some, None, refl, sym, subst, ◌∙◌, arith, IsTrue, IsFalse, if◌then◌else◌, codes}
+use Rattle.std.proofs.Common.{◌≡◌, ℕ, List, [], ◌∷◌, Bool, true, false, ◌&&◌, ◌||◌, Option, Some, None, refl, sym, subst, ◌∙◌, IsTrue, IsFalse, if◌then◌else◌, codes}
 use Rattle.erl_term.specs.Term as T
 use Rattle.erl_term.specs.Term.{Term, Class}
 use Rattle.erl_term.specs.Terms.{class_word, tagged}
@@ -20,7 +20,7 @@ use Rattle.ssa_form.specs.Operations.{put, follows}
 use Rattle.ssa_form.specs.SsaRun.{Raised, is_landing, is_catch_end, lands, ends_catch, chain_does, phi_values, put_each, closed, catches, landed, begins, entered_by}
 use Rattle.ssa_form.proofs.Rank.{most_twice, then_most, same, Fits}
 use Rattle.ssa_form.proofs.OpenHandlers.{Tracks}
-use Rattle.ssa_form.proofs.OpTurns.{some_holds, when_holds, outside_holds, Eases, eased, OnlyOn, uses_eased, put_only, and_first, answered_uses}
+use Rattle.ssa_form.proofs.Eases.{some_holds, when_holds, outside_holds, Eases, eased, OnlyOn, uses_eased, put_only, and_first, answered_uses}
 use Rattle.ssa_form.proofs.ChainSteps.{From, all_from, tail_from, At, at_next, Chained, chain_steps}
 
 pub and_second : (a b : Bool) → (a && b) ≡ true → b ≡ true
@@ -105,14 +105,12 @@ module _ {S : Type 0} (o : Storage S) (around : Around) (here : Here) (lowers : 
     chained_eased : (ys : List Set) (f : Frame S) (s : State) (g : Frame S) (u : State) (a : After S)
         → Eases open_in f s g u → Leaves ys g u a → Leaves ys f s a
     chained_eased ys f s g u (next h v) e p = record {
-      low = let l : v.left ≤ u.left = p.low in let k : u.left ≤ s.left = e.low in omega (arith, l, k);
       fits = p.fits;
       reached = p.reached;
       falls = λ r. most_twice _ _ _ (p.falls r) e.falls;
       looks = λ r t. then_most _ _ _ (p.looks r t) e.falls;
     }
     chained_eased ys f s g u (choose c h v) e p = record {
-      low = let l : v.left ≤ u.left = p.low in let k : u.left ≤ s.left = e.low in omega (arith, l, k);
       fits = p.fits;
       at = p.at;
       by = p.by;
@@ -127,7 +125,6 @@ module _ {S : Type 0} (o : Storage S) (around : Around) (here : Here) (lowers : 
       looks = λ r t. then_most _ _ _ (p.looks r t) e.falls;
     }
     chained_eased ys f s g u (raise c z h v) e p = record {
-      low = let l : v.left ≤ u.left = p.low in let k : u.left ≤ s.left = e.low in omega (arith, l, k);
       at = p.at;
       by = p.by;
       mode = p.mode;
@@ -135,22 +132,20 @@ module _ {S : Type 0} (o : Storage S) (around : Around) (here : Here) (lowers : 
       reached = p.reached;
       may = p.may;
     }
-    chained_eased ys f s g u (finish v z) e p = let k : u.left ≤ s.left = e.low in omega (arith, p, k)
+    chained_eased ys f s g u (finish v z) e p = tt
     chained_eased ys f s g u After.bad e p = tt
 
     -- behind a landing, where no cycle passes
 
     chained_landed : (ys zs : List Set) (f : Frame S) (s : State) (g : Frame S) (u : State) (a : After S)
-        → IsTrue (any_op breaks_cycle ys) → u.left ≤ s.left → Leaves zs g u a → Leaves ys f s a
-    chained_landed ys zs f s g u (next h v) t l p = record {
-      low = let k : v.left ≤ u.left = p.low in omega (arith, l, k);
+        → IsTrue (any_op breaks_cycle ys) → Leaves zs g u a → Leaves ys f s a
+    chained_landed ys zs f s g u (next h v) t p = record {
       fits = p.fits;
       reached = p.reached;
       falls = λ r. absurd (true_not _ t r);
       looks = λ r i. absurd (true_not _ t r);
     }
-    chained_landed ys zs f s g u (choose c h v) t l p = record {
-      low = let k : v.left ≤ u.left = p.low in omega (arith, l, k);
+    chained_landed ys zs f s g u (choose c h v) t p = record {
       fits = p.fits;
       at = p.at;
       by = p.by;
@@ -164,8 +159,7 @@ module _ {S : Type 0} (o : Storage S) (around : Around) (here : Here) (lowers : 
       falls = λ r. absurd (true_not _ t r);
       looks = λ r i. absurd (true_not _ t r);
     }
-    chained_landed ys zs f s g u (raise c z h v) t l p = record {
-      low = let k : v.left ≤ u.left = p.low in omega (arith, l, k);
+    chained_landed ys zs f s g u (raise c z h v) t p = record {
       at = p.at;
       by = p.by;
       mode = p.mode;
@@ -173,8 +167,8 @@ module _ {S : Type 0} (o : Storage S) (around : Around) (here : Here) (lowers : 
       reached = p.reached;
       may = p.may;
     }
-    chained_landed ys zs f s g u (finish v z) t l p = omega (arith, p, l)
-    chained_landed ys zs f s g u After.bad t l p = tt
+    chained_landed ys zs f s g u (finish v z) t p = tt
+    chained_landed ys zs f s g u After.bad t p = tt
 
     heads_are : (h k : Handler) (hs is' : List Handler) → h ∷ hs ≡ k ∷ is' → hs ≡ is'
     heads_are h k hs is' e = cc
@@ -192,7 +186,7 @@ module _ {S : Type 0} (o : Storage S) (around : Around) (here : Here) (lowers : 
     caught_holds : (P : After S → Type 0) → P After.bad
         → (dst : Option ℕ) (f : Frame S) (s : State) (c : Class) (r : Term) (k : Frame S → State → After S)
         → f.window ≡ None
-        → ((u : State) (q : Outcome Term) → u.left ≤ s.left → P (finish u q))
+        → ((u : State) (q : Outcome Term) → P (finish u q))
         → ((g : Frame S) (u : State) → Eases open_in f s g u → P (k g u))
         → P (go_on (follows o around here dst f (exit_of c r s)) k)
     caught_holds P q dst f s T.throw r k w i j =
@@ -205,7 +199,7 @@ module _ {S : Type 0} (o : Storage S) (around : Around) (here : Here) (lowers : 
             → P (go_on (follows o around here dst f
             (going_on (ask_from W.trace rs s)
             (λ t. single (tagged (codes "EXIT") (T.tuple (T.more r (T.more t.term T.none))))))) k)
-        asked_for [] e = i s _ (omega arith)
+        asked_for [] e = i s _
         asked_for (t ∷ ts) e = only_then open_in P q f s _ k
             (put_in dst _ f s f (answered W.trace t ts s)
             (uses_eased (record {
@@ -221,10 +215,10 @@ module _ {S : Type 0} (o : Storage S) (around : Around) (here : Here) (lowers : 
     -- Landings.
 
     rest_after : (ys : List Set) (k : ℕ) (zs : List Set) (f : Frame S) (s : State) (g : Frame S) (u : State)
-        (hs : List Handler) → IsTrue (any_op breaks_cycle zs) → u.left ≤ s.left → open_in g.store ≡ hs → Fits g u
+        (hs : List Handler) → IsTrue (any_op breaks_cycle zs) → open_in g.store ≡ hs → Fits g u
         → From b n x there ys k → At b n x there ys k hs
         → Leaves zs f s (chain_does o around here x.before x.last ys g u)
-    rest_after ys k zs f s g u hs t l e i h r = chained_landed zs ys f s g u _ t l
+    rest_after ys k zs f s g u hs t e i h r = chained_landed zs ys f s g u _ t
         (chain_steps b n x there o around here lowers open_in tracks ys k g u h
         (subst (At b n x there ys k) (sym e) r) i)
 
@@ -236,8 +230,8 @@ module _ {S : Type 0} (o : Storage S) (around : Around) (here : Here) (lowers : 
         (λ g. go_on (follows o around here y.dst g (exit_of e.class e.reason s))
         (chain_does o around here x.before x.last ys)) h hs p (λ st w q.
         caught_holds (Leaves (y ∷ ys) f s) tt y.dst (kept f st) s e.class e.reason
-        (chain_does o around here x.before x.last ys) w (λ u z l. l) (λ g u j.
-        rest_after ys 1 (y ∷ ys) f s g u hs (first_breaks y ys (catch_breaks y.op (catches_op e.tag y t))) j.low
+        (chain_does o around here x.before x.last ys) w (λ u z. tt) (λ g u j.
+        rest_after ys 1 (y ∷ ys) f s g u hs (first_breaks y ys (catch_breaks y.op (catches_op e.tag y t)))
         (j.handlers ∙ q) (j.fits i) (tail_from b n x there y ys 0 from)
         (subst (At b n x there ys 1) (catch_after y.op hs (catches_op e.tag y t))
         (at_next b n x there y ys 0 hs from r)))))
@@ -271,7 +265,7 @@ module _ {S : Type 0} (o : Storage S) (around : Around) (here : Here) (lowers : 
         (chain_does o around here x.before x.last ys)
         (put_in v.dst (term (T.raw_trace e.class)) (kept f st) s g2 u2 e2) (λ g3 u3 e3.
         rest_after ys 3 (y ∷ z ∷ v ∷ ys) f s g3 u3 hs
-        (first_breaks y (z ∷ v ∷ ys) (landing_breaks y.op (lands_op e.tag y t1))) e3.low (e3.handlers ∙ q)
+        (first_breaks y (z ∷ v ∷ ys) (landing_breaks y.op (lands_op e.tag y t1))) (e3.handlers ∙ q)
         (e3.fits i) from3
         (subst (At b n x there ys 3) (landing_after v.op hs (lands_op e.tag v t3))
         (at_next b n x there v ys 2 hs from2 at2))))))
@@ -336,7 +330,6 @@ module _ {S : Type 0} (o : Storage S) (around : Around) (here : Here) (lowers : 
         (begins o around here x e)
         (puts_only hs f s (kept f st) s
         (record {
-          low = omega arith;
           handlers = tracks.arrives n f.store st p;
           fits = λ h. h;
           falls = same refl refl refl refl;

@@ -1,5 +1,5 @@
 -- What the chain of a block leaves, and where in the flow it stands.
-use Rattle.std.proofs.Common.{◌≡◌, ◌≤◌, ℕ, zero, suc, ◌+◌, List, [], ◌∷◌, length, Bool, true, false, ◌||◌, Option, Some, refl, sym, ap, subst, ◌∙◌, arith, eqb, IsTrue, IsFalse, if◌then◌else◌}
+use Rattle.std.proofs.Common.{◌≡◌, ℕ, zero, suc, ◌+◌, List, [], ◌∷◌, length, Bool, true, false, ◌||◌, Option, Some, refl, sym, ap, subst, ◌∙◌, arith, eqb, IsTrue, IsFalse, if◌then◌else◌}
 use Rattle.world_model.specs.Run.{State}
 use Rattle.step_machine.specs.Bodies.{Here}
 use Rattle.step_machine.specs.EntryBound.{Lowers}
@@ -13,7 +13,7 @@ use Rattle.ssa_form.specs.Operations.{all_held, does}
 use Rattle.ssa_form.specs.SsaRun.{is_dst, mode_of, acts_do, set_does, chain_does}
 use Rattle.ssa_form.proofs.Rank.{Lower, AtMost, then_most, most_twice, rank, Fits}
 use Rattle.ssa_form.proofs.OpenHandlers.{Tracks}
-use Rattle.ssa_form.proofs.OpTurns.{some_holds, Eases, eased, OnlyOn, Walk}
+use Rattle.ssa_form.proofs.Eases.{some_holds, Eases, eased, OnlyOn}
 use Rattle.ssa_form.proofs.OpSteps.{picked_handlers, Steps, Passes, steps}
 
 -- One way of looking after another.
@@ -130,7 +130,6 @@ module _ (b : Body) (n : ℕ) (x : Block) (there : block_at b n ≡ Some x) wher
   module _ {S : Type 0} (open_in : S → List Handler) (xs : List Set) (f : Frame S) (s : State) where
     -- all sets are done
     pub record Through (g : Frame S) (u : State) : Type 0 where
-      pub low : u.left ≤ s.left
       pub fits : Fits g u
       pub reached : IsTrue (tests_nothing (Some x.last)) → Reached b (point n (length x.chain)) (open_in g.store)
       pub falls : IsFalse (any_op breaks_cycle xs) → AtMost (rank g u) (rank f s)
@@ -138,7 +137,6 @@ module _ (b : Body) (n : ℕ) (x : Block) (there : block_at b n ≡ Some x) wher
 
     -- the last chooses by this set
     pub record Chosen (c : Bool) (g : Frame S) (u : State) : Type 0 where
-      pub low : u.left ≤ s.left
       pub fits : Fits g u
       pub at : ℕ
       pub by : Set
@@ -154,7 +152,6 @@ module _ (b : Body) (n : ℕ) (x : Block) (there : block_at b n ≡ Some x) wher
 
     -- this set raised
     pub record Risen (g : Frame S) (u : State) : Type 0 where
-      pub low : u.left ≤ s.left
       pub at : ℕ
       pub by : Set
       pub mode : Mode
@@ -166,14 +163,11 @@ module _ (b : Body) (n : ℕ) (x : Block) (there : block_at b n ≡ Some x) wher
     Chained (next g u) = Through g u
     Chained (choose c g u) = Chosen c g u
     Chained (raise c y g u) = Risen g u
-    Chained (finish u q) = u.left ≤ s.left
+    Chained (finish u q) = Unit {0}
     Chained After.bad = Unit {0}
 
   module _ {S : Type 0} (o : Storage S) (around : Around) (here : Here) (lowers : Lowers here.enter)
       (open_in : S → List Handler) (tracks : Tracks o open_in) where
-    abbrev pub walk : Frame S → State → Walk S
-    walk f s = record { o = o; around = around; here = here; open_in = open_in; tracks = tracks; f0 = f; s0 = s }
-
     -- Frame actions.
 
     acts_only : (as' : List FrameAction) (f0 : Frame S) (s0 : State) (f : Frame S) (s : State) → Eases open_in f0 s0 f s
@@ -183,7 +177,6 @@ module _ (b : Body) (n : ℕ) (x : Block) (there : block_at b n ≡ Some x) wher
         (o.acts (in_window f) a f.store) _ (λ st p.
         acts_only as' f0 s0 (kept f st) s
         (record {
-          low = e.low;
           handlers = tracks.acts (in_window f) a f.store st p ∙ e.handlers;
           fits = e.fits;
           falls = e.falls;
@@ -194,14 +187,12 @@ module _ (b : Body) (n : ℕ) (x : Block) (there : block_at b n ≡ Some x) wher
     steps_after : (op : Op) (m : Mode) (dst : Option ℕ) (f : Frame S) (s : State) (g : Frame S) (u : State)
         (a : After S) → Eases open_in f s g u → Steps open_in op m dst g u a → Steps open_in op m dst f s a
     steps_after op m dst f s g u (next h v) e p = record {
-      low = let l : v.left ≤ u.left = p.low in let k : u.left ≤ s.left = e.low in omega (arith, l, k);
       handlers = p.handlers ∙ ap (after_op op) e.handlers;
       fits = p.fits;
       falls = λ q. most_twice _ _ _ (p.falls q) e.falls;
       no_look = p.no_look;
     }
     steps_after op m dst f s g u (choose c h v) e p = record {
-      low = let l : v.left ≤ u.left = p.low in let k : u.left ≤ s.left = e.low in omega (arith, l, k);
       tested = p.tested;
       mode = p.mode;
       handlers = p.handlers ∙ ap (picked_handlers c op dst p.tested) e.handlers;
@@ -211,18 +202,17 @@ module _ (b : Body) (n : ℕ) (x : Block) (there : block_at b n ≡ Some x) wher
       looks = λ q. then_most _ _ _ (p.looks q) e.falls;
     }
     steps_after op m dst f s g u (raise c y h v) e p = record {
-      low = let l : v.left ≤ u.left = p.low in let k : u.left ≤ s.left = e.low in omega (arith, l, k);
       handlers = p.handlers ∙ e.handlers;
       may = p.may;
     }
-    steps_after op m dst f s g u (finish v q) e p = let k : u.left ≤ s.left = e.low in omega (arith, p, k)
+    steps_after op m dst f s g u (finish v q) e p = tt
     steps_after op m dst f s g u After.bad e p = tt
 
     set_after : (m : Mode) (y : Set) (f : Frame S) (s : State) (a : After S) → Fits f s → OnlyOn open_in f s a
         → Steps open_in y.op m y.dst f s
         (go_on a (λ g u. does o around here y.op y.args m y.dst (all_held o around here g y.args) g u))
     set_after m y f s (next g u) i e = steps_after y.op m y.dst f s g u _ e
-        (steps (walk g u) lowers (e.fits i) y.op y.args m y.dst (all_held o around here g y.args))
+        (steps o around here lowers open_in tracks y.op m y.dst g u (e.fits i) y.args (all_held o around here g y.args))
     set_after m y f s After.bad i e = tt
     set_after m y f s (choose c g u) i e = absurd e
     set_after m y f s (raise c z g u) i e = absurd e
@@ -239,7 +229,6 @@ module _ (b : Body) (n : ℕ) (x : Block) (there : block_at b n ≡ Some x) wher
         → Passes open_in y.op (mode_of y.dst ys x.before x.last) y.dst f s g u → Chained open_in ys g u a
         → Chained open_in (y ∷ ys) f s a
     chained_after y ys f s g u (next h v) p q = record {
-      low = let l : v.left ≤ u.left = q.low in let k : u.left ≤ s.left = p.low in omega (arith, l, k);
       fits = q.fits;
       reached = q.reached;
       falls = λ r. let e : IsFalse (breaks_cycle y.op) × IsFalse (any_op breaks_cycle ys) =
@@ -248,7 +237,6 @@ module _ (b : Body) (n : ℕ) (x : Block) (there : block_at b n ≡ Some x) wher
           or_false _ _ r in then_most _ _ _ (q.looks e.1 (or_second _ _ t p.no_look)) (p.falls e.0);
     }
     chained_after y ys f s g u (choose c h v) p q = record {
-      low = let l : v.left ≤ u.left = q.low in let k : u.left ≤ s.left = p.low in omega (arith, l, k);
       fits = q.fits;
       at = q.at;
       by = q.by;
@@ -265,7 +253,6 @@ module _ (b : Body) (n : ℕ) (x : Block) (there : block_at b n ≡ Some x) wher
           or_false _ _ r in then_most _ _ _ (q.looks e.1 (or_second _ _ t p.no_look)) (p.falls e.0);
     }
     chained_after y ys f s g u (raise c z h v) p q = record {
-      low = let l : v.left ≤ u.left = q.low in let k : u.left ≤ s.left = p.low in omega (arith, l, k);
       at = q.at;
       by = q.by;
       mode = q.mode;
@@ -273,7 +260,7 @@ module _ (b : Body) (n : ℕ) (x : Block) (there : block_at b n ≡ Some x) wher
       reached = q.reached;
       may = q.may;
     }
-    chained_after y ys f s g u (finish v z) p q = let k : u.left ≤ s.left = p.low in omega (arith, q, k)
+    chained_after y ys f s g u (finish v z) p q = tt
     chained_after y ys f s g u After.bad p q = tt
 
     nothing_looks : (y : Set) (ys : List Set) → ys ≡ [] → IsTrue (any_op is_peek (y ∷ ys)) → IsTrue (is_peek y.op)
@@ -288,7 +275,6 @@ module _ (b : Body) (n : ℕ) (x : Block) (there : block_at b n ≡ Some x) wher
     chain_after y ys k f s (next g u) c h r p i = chained_after y ys f s g u (c g u) p
         (i g u p.fits (subst (At ys (suc k)) (sym p.handlers) (at_next y ys k (open_in f.store) h r)))
     chain_after y ys k f s (choose v g u) c h r p i = record {
-      low = p.low;
       fits = p.fits;
       at = k;
       by = y;
@@ -305,7 +291,6 @@ module _ (b : Body) (n : ℕ) (x : Block) (there : block_at b n ≡ Some x) wher
           tested_by y.dst ys x.before x.last p.tested p.mode in p.looks (nothing_looks y ys t.nothing_after l);
     }
     chain_after y ys k f s (raise v z g u) c h r p i = record {
-      low = p.low;
       at = k;
       by = y;
       mode = mode_of y.dst ys x.before x.last;
@@ -314,13 +299,12 @@ module _ (b : Body) (n : ℕ) (x : Block) (there : block_at b n ≡ Some x) wher
       reached = subst (Reached b (point n k)) (sym p.handlers) r;
       may = p.may;
     }
-    chain_after y ys k f s (finish u q) c h r p i = p
+    chain_after y ys k f s (finish u q) c h r p i = tt
     chain_after y ys k f s After.bad c h r p i = tt
 
     ended_chain : (k : ℕ) (f : Frame S) (s : State) (a : After S) → From [] k → At [] k (open_in f.store) → Fits f s
         → OnlyOn open_in f s a → Chained open_in [] f s a
     ended_chain k f s (next g u) h r i e = record {
-      low = e.low;
       fits = e.fits i;
       reached = λ t. subst (λ j. Reached b (point n j) (open_in g.store))
           (let l : k + 0 ≡ length x.chain = h.long in omega (arith, l))

@@ -1,20 +1,17 @@
 -- Under the cycle rule a run is over after some blocks: each time that it comes back to a block, its rank is lower.
 use Rattle.std.proofs.Common.{◌≡◌, ◌≢◌, ◌≤◌, ◌⊎◌, inl, inr, ⊎_elim, ℕ, zero, suc, List, [], ◌∷◌, ◌++◌, length, Bool, true, false, ◌||◌, refl, sym, ap, subst, ◌∙◌, arith, IsTrue, IsFalse}
 use Rattle.std.proofs.lemmas.Option.{slice_get_past}
-use Rattle.erl_term.specs.Term.{Term}
-use Rattle.world_model.specs.Run.{State, Outcome}
 use Rattle.step_machine.specs.Bodies.{Here}
 use Rattle.step_machine.specs.EntryBound.{Lowers}
 use Rattle.ssa_form.specs.Ssa.{Op, Body, block_at, or_none}
-use Rattle.ssa_form.specs.Storage.{Handler, Storage, Ended, done, unfinished, Around}
+use Rattle.ssa_form.specs.Storage.{Handler, Storage, Ended, unfinished, Around}
 use Rattle.ssa_form.specs.SetFacts.{is_peek, breaks_cycle}
 use Rattle.ssa_form.specs.Flow.{Passing, one, more}
 use Rattle.ssa_form.specs.WellFormed.{block_has, any_has, KeepsCycle, CycleRule}
 use Rattle.ssa_form.specs.SsaRun.{block_does, blocks}
 use Rattle.ssa_form.proofs.Rank.{Rank, Lower, then_most, most_then, most_twice, by_rank, rank}
 use Rattle.ssa_form.proofs.OpenHandlers.{Tracks}
-use Rattle.ssa_form.proofs.MoreBlocks as More
-use Rattle.ssa_form.proofs.Turns.{Config, over_and, Low, Good, Goes, Turn, ends, turns, turn}
+use Rattle.ssa_form.proofs.Turns.{Config, over_and, Good, Goes, Turn, ends, turns, turn}
 
 -- Blocks of one way after another.
 
@@ -51,11 +48,6 @@ less_or_same (suc a) zero l = inr (omega (arith, l))
 less_or_same (suc a) (suc b) l =
     ⊎_elim (λ h. inl (omega (arith, h))) (λ e. inr (omega (arith, e))) (less_or_same a b (omega (arith, l)))
 
-low_then : (s u : State) (r : Ended) → u.left ≤ s.left → Low u r → Low s r
-low_then s u (done v q) l h = omega (arith, l, h)
-low_then s u Ended.bad l h = tt
-low_then s u unfinished l h = tt
-
 module _ {S : Type 0} (o : Storage S) (around : Around) (here : Here) (lowers : Lowers here.enter)
     (open_in : S → List Handler) (tracks : Tracks o open_in) (b : Body) where
   abbrev Goes' : Config S → Config S → Type 0
@@ -69,8 +61,6 @@ module _ {S : Type 0} (o : Storage S) (around : Around) (here : Here) (lowers : 
 
   goes_twice : (c d e : Config S) → Goes' c d → Goes' d e → Goes' c e
   goes_twice c d e p q = record {
-    low = let k : d.state.left ≤ c.state.left =
-        p.low in let l : e.state.left ≤ d.state.left = q.low in omega (arith, k, l);
     through = p.through ++ q.through;
     passing = passing_twice b c.at d.at e.at p.through q.through p.passing q.passing;
     falls = λ r h. let s : IsFalse (any_has breaks_cycle b p.through) × IsFalse (any_has breaks_cycle b q.through) =
@@ -100,15 +90,15 @@ module _ {S : Type 0} (o : Storage S) (around : Around) (here : Here) (lowers : 
 
   -- A run is over, or stands before a block with a number of at least a.
   data Reach (a : ℕ) (c : Config S) : Type 0 where
-    is_over : (j : ℕ) (r : Ended) → ((k : ℕ) → run (over_and j k) c ≡ r) → r ≢ unfinished → Low c.state r → Reach a c
+    is_over : (j : ℕ) (r : Ended) → ((k : ℕ) → run (over_and j k) c ≡ r) → r ≢ unfinished → Reach a c
     stays : a ≤ c.at → Reach a c
     comes : (d : Config S) (j : ℕ) → ((k : ℕ) → run (over_and j k) c ≡ run k d) → Good' d → Goes' c d
         → a ≤ d.at → Reach a c
 
   reach_after : (a : ℕ) (c d : Config S) (i : ℕ) → ((k : ℕ) → run (over_and i k) c ≡ run k d) → Good' d → Goes' c d
       → Reach a d → Reach a c
-  reach_after a c d i h g p (is_over j r q u l) = is_over (over_and i j) r
-      (λ k. ap (λ n. run n c) (over_twice i j k) ∙ h (over_and j k) ∙ q k) u (low_then c.state d.state r p.low l)
+  reach_after a c d i h g p (is_over j r q u) = is_over (over_and i j) r
+      (λ k. ap (λ n. run n c) (over_twice i j k) ∙ h (over_and j k) ∙ q k) u
   reach_after a c d i h g p (stays l) = comes d i h g p l
   reach_after a c d i h g p (comes e j q f r l) = comes e (over_and i j)
       (λ k. ap (λ n. run n c) (over_twice i j k) ∙ h (over_and j k) ∙ q k) f (goes_twice c d e p r) l
@@ -138,8 +128,7 @@ module _ {S : Type 0} (o : Storage S) (around : Around) (here : Here) (lowers : 
 
       next : (r : Rank) → ((q : Rank) → Lower q r → Loops q) → (c : Config S) → rank c.frame c.state ≡ r → c.at ≡ a
           → (d : Config S) → ((k : ℕ) → run (suc k) c ≡ run k d) → Good' d → Goes' c d → Reach a d → Reach (suc a) c
-      next r ih c e at d h g p (is_over j q i u l) =
-          is_over (suc j) q (λ k. h (over_and j k) ∙ i k) u (low_then c.state d.state q p.low l)
+      next r ih c e at d h g p (is_over j q i u) = is_over (suc j) q (λ k. h (over_and j k) ∙ i k) u
       next r ih c e at d h g p (stays l) = behind r ih c e at d 1 h g p l
       next r ih c e at d h g p (comes f j i k m l) =
           behind r ih c e at f (suc j) (λ n. h (over_and j n) ∙ i n) k (goes_twice c d f p m) l
@@ -148,14 +137,14 @@ module _ {S : Type 0} (o : Storage S) (around : Around) (here : Here) (lowers : 
       looped r ih c g e at = by_turn (turn o around here lowers open_in tracks b c g)
         where
           by_turn : Turn o around here lowers open_in tracks b c → Reach (suc a) c
-          by_turn (ends j q h u l) = is_over j q h u l
+          by_turn (ends j q h u) = is_over j q h u
           by_turn (turns d h i p) = next r ih c e at d h i p (below d i)
 
       loops : (c : Config S) → Good' c → c.at ≡ a → Reach (suc a) c
       loops c g at = by_rank Loops looped (rank c.frame c.state) c g refl at
 
       further : (c : Config S) → Good' c → Reach a c → Reach (suc a) c
-      further c g (is_over j r h u l) = is_over j r h u l
+      further c g (is_over j r h u) = is_over j r h u
       further c g (stays l) = ⊎_elim (λ m. stays m) (λ q. loops c g (sym q)) (less_or_same a c.at l)
       further c g (comes d j h i p l) = ⊎_elim (λ m. comes d j h i p m)
           (λ q. reach_after (suc a) c d j h i p (loops d i (sym q))) (less_or_same a d.at l)
@@ -176,32 +165,6 @@ module _ {S : Type 0} (o : Storage S) (around : Around) (here : Here) (lowers : 
     is_over_soon c g = by_reach (reach (length b.blocks) c g)
       where
         by_reach : Reach (length b.blocks) c → (k : ℕ) × (run k c ≢ unfinished)
-        by_reach (is_over j r h u l) = (over_and j 0, λ e. u (sym (h 0) ∙ e))
+        by_reach (is_over j r h u) = (over_and j 0, λ e. u (sym (h 0) ∙ e))
         by_reach (stays l) = (1, bad_over _ (past_all c 0 l))
         by_reach (comes d j h i p l) = (over_and j 1, bad_over _ (h 1 ∙ past_all d 0 l))
-
-  -- No entries come back.
-
-  same_end : (s : State) (r t : Ended) → r ≡ t → Low s r → Low s t
-  same_end s r t e l = subst (Low s) e l
-
-  pub runs_lower : (k : ℕ) (c : Config S) → Good' c → (u : State) (q : Outcome Term) → run k c ≡ done u q
-      → u.left ≤ c.state.left
-  unfolding blocks
-  runs_lower zero c g u q e = absurd cc
-  runs_lower (suc k) c g u q e = by_turn (λ d i. runs_lower k d i u q) (turn o around here lowers open_in tracks b c g)
-    where
-      over_more : (j k : ℕ) → k ≤ over_and j k
-      over_more zero k = omega arith
-      over_more (suc j) k = let h : k ≤ over_and j k = over_more j k in omega (arith, h)
-
-      not_open : (r : Ended) → r ≡ done u q → r ≢ unfinished
-      not_open r p h = let z : done u q ≡ unfinished = sym p ∙ h in cc
-
-      by_turn : ((d : Config S) → Good' d → run k d ≡ done u q → u.left ≤ d.state.left)
-          → Turn o around here lowers open_in tracks b c → u.left ≤ c.state.left
-      by_turn ih (ends j r h w l) = same_end c.state r (done u q)
-          (sym (h (suc k)) ∙ More.more o around here b (suc k) (over_and j (suc k))
-          (over_more j (suc k)) c.raised c.from c.at c.frame c.state (not_open _ e) ∙ e) l
-      by_turn ih (turns d h i p) = let l : u.left ≤ d.state.left =
-          ih d i (sym (h k) ∙ e) in let m : d.state.left ≤ c.state.left = p.low in omega (arith, l, m)

@@ -2,7 +2,8 @@ pub mod MoreBlocks
 mod Rank
 mod OpenHandlers
 mod Spending
-mod OpTurns
+pub mod Moves
+mod Eases
 mod OpSteps
 mod ChainSteps
 mod BlockSteps
@@ -10,16 +11,21 @@ mod Turns
 mod Cycles
 mod SpotHandlers
 pub mod RunsEnd
-pub mod LawfulOps
-pub mod LawfulRuns
+pub mod StateOps
+pub mod StateRuns
 pub mod OneResult
 mod WholeBodies
 mod LiveSteps
 pub mod TwoStorages
+pub mod TwoRules
+pub mod TwoTerms
+pub mod TwoDoes
+pub mod OneStorage
 pub mod TwoRuns
 pub mod TwoBlocks
-mod TwinOps
+pub mod VarLists
 mod TwinChains
+mod TwinEntries
 mod TwinRuns
 pub mod Numbered
 mod Bodies

@@ -16,7 +16,7 @@ use Rattle.pass_contract.specs.Lawful.{Lawful, IsLawful}
 use Rattle.pass_contract.specs.PassContract.{Run, fitting, IsProper}
 use Rattle.pass_contract.proofs.Fitting.{fitting_suffices}
 use Rattle.ssa_form.specs.PassView.{result_of, ssa_does, placed_does, framed_does, BodiesAreProper}
-use Rattle.ssa_form.proofs.LawfulRuns.{body_lawful}
+use Rattle.ssa_form.proofs.StateRuns.{body_lawful}
 use Rattle.ssa_form.proofs.MoreBlocks.{more}
 
 -- a run that, once it is over, stays so
@@ -79,7 +79,7 @@ module _ (fits : (n : ℕ) (run : Run) → IsProper run → IsProper (fitting n 
   ssa_proper b around = fits (length b.params) _ (turns_proper
       (λ here vs s k. ssa_run around here b k (all_terms vs) [] s)
       (λ here vs s. body_stays in_vars around here b _ [] s)
-      (λ here vs s u q k l e. body_lawful in_vars around here l s b k _ [] u q e))
+      (λ here vs s u q k l e. body_lawful in_vars around here s b k _ [] u q e l))
 
   placed_proper : (p : Placed.Placed) (around : Around) → IsProper (placed_does p around)
   unfolding placed_run
@@ -90,7 +90,7 @@ module _ (fits : (n : ℕ) (run : Run) → IsProper run → IsProper (fitting n 
       (λ st. body_stays (in_registers p.spots) around here p.body st [] s))
       (λ here vs s u q k l e. if_lawful (Placed.params_in p.spots p.body.params (all_terms vs) no_registers)
       (λ st. body_run (in_registers p.spots) around here p.body k st [] s) s u q
-      (λ st. body_lawful (in_registers p.spots) around here l s p.body k st [] u q) e))
+      (λ st h. body_lawful (in_registers p.spots) around here s p.body k st [] u q h l) e))
 
   framed_proper : (p : Framed.Framed) (around : Around) → IsProper (framed_does p around)
   unfolding framed_run
@@ -101,7 +101,7 @@ module _ (fits : (n : ℕ) (run : Run) → IsProper run → IsProper (fitting n 
       (λ st. body_stays (in_stack p.spots p.sizes) around here p.body st [] s))
       (λ here vs s u q k l e. if_lawful (Framed.params_in p.spots p.sizes p.body.params (all_terms vs) _)
       (λ st. body_run (in_stack p.spots p.sizes) around here p.body k st [] s) s u q
-      (λ st. body_lawful (in_stack p.spots p.sizes) around here l s p.body k st [] u q) e))
+      (λ st h. body_lawful (in_stack p.spots p.sizes) around here s p.body k st [] u q h l) e))
 
 pub proper_each : BodiesAreProper
 proper_each = record {

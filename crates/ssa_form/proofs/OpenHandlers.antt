@@ -33,7 +33,7 @@ vars_leave_alone ends_body st u e = only (no_handlers st.handlers) e
     only false e = absurd (none_is u e)
 vars_leave_alone always_raises st u e = ap (λ x. x.handlers) (sym (some_is st u e))
 
-vars_close : (v : ℕ) (hs : List Handler) (st u : Vars) → with_handlers st (without_first v hs) ≡ Some u
+pub vars_close : (v : ℕ) (hs : List Handler) (st u : Vars) → with_handlers st (without_first v hs) ≡ Some u
     → (h : Handler) × (hs ≡ h ∷ u.handlers)
 vars_close v [] st u e = absurd (none_is u e)
 vars_close v (h ∷ hs) st u e = closing (eqb h.tag v) e

@@ -1,10 +1,12 @@
 -- The runs of the three forms are over under the cycle rule, and give no entries back.
 use Rattle.std.proofs.Common.{◌≡◌, ◌≢◌, ◌≤◌, ℕ, List, [], Option, Some, None, refl, sym, subst, ◌∙◌}
 use Rattle.erl_term.specs.Term.{Term}
-use Rattle.world_model.specs.Run.{State, Outcome}
+use Rattle.erl_term.specs.Terms.{Values}
+use Rattle.world_model.specs.Run.{State, Outcome, M}
 use Rattle.step_machine.specs.Bodies.{Here}
 use Rattle.step_machine.specs.EntryBound.{Lowers}
 use Rattle.step_machine.specs.Frames.{MatchContext}
+use Rattle.pass_contract.specs.Lawful.{Lawful, IsLawful}
 use Rattle.ssa_form.specs.Ssa.{Body}
 use Rattle.ssa_form.specs.Storage.{Handler, Storage, Ended, done, unfinished, Around}
 use Rattle.ssa_form.specs.Flow.{point, begins, Reached}
@@ -17,9 +19,14 @@ use Rattle.ssa_form.specs.WellFormed.{CycleRule}
 use Rattle.ssa_form.specs.RunLaws.{IsOver, RunsEnd, RunsLower}
 use Rattle.ssa_form.proofs.OpenHandlers.{Tracks, vars_track}
 use Rattle.ssa_form.proofs.SpotHandlers.{registers_track, params_keep, stack_track, open_tags, stack_params_keep, first_untagged}
-use Rattle.ssa_form.proofs.OpTurns.{none_some}
+use Rattle.ssa_form.proofs.Eases.{none_some}
 use Rattle.ssa_form.proofs.Turns.{Config, Good}
-use Rattle.ssa_form.proofs.Cycles.{is_over_soon, runs_lower}
+use Rattle.ssa_form.proofs.Cycles.{is_over_soon}
+use Rattle.ssa_form.proofs.StateRuns.{body_lowers}
+
+-- what is lawful gives no entries back, so these laws hold of what the contracts of passes enter
+pub lawful_lowers : (enter : ℕ → Values → M Term) → IsLawful enter → Lowers enter
+lawful_lowers enter l n vs s = let h : Lawful s (enter n vs s).0 = l n vs s in h.left
 
 module _ {S : Type 0} (o : Storage S) (around : Around) (here : Here) (lowers : Lowers here.enter)
     (open_in : S → List Handler) (tracks : Tracks o open_in) (b : Body) where
@@ -45,11 +52,6 @@ module _ {S : Type 0} (o : Storage S) (around : Around) (here : Here) (lowers : 
       × (body_run o around here b k st cs s ≢ unfinished) = is_over_soon o around here lowers open_in tracks b rule
       (first_config st cs s) (first_good st cs s e) in record { within = r.0; over = r.1 }
 
-  body_lowers : (k : ℕ) (st : S) (cs : List MatchContext) (s u : State) (q : Outcome Term) → open_in st ≡ []
-      → body_run o around here b k st cs s ≡ done u q → u.left ≤ s.left
-  body_lowers k st cs s u q e h =
-      runs_lower o around here lowers open_in tracks b k (first_config st cs s) (first_good st cs s e) u q h
-
 -- where the arguments have a point
 if_ends : {A : Type 0} (x : Option A) (run : ℕ → A → Ended) → ((a : A) → x ≡ Some a → IsOver (λ k. run k a))
     → IsOver (λ k. run_if x (run k))
@@ -57,9 +59,9 @@ if_ends None run h = record { within = 0; over = λ e. cc }
 if_ends (Some a) run h = let r : IsOver (λ k. run k a) = h a refl in record { within = r.within; over = r.over }
 
 if_lowers : {A : Type 0} (x : Option A) (run : A → Ended) (s u : State) (q : Outcome Term)
-    → ((a : A) → x ≡ Some a → run a ≡ done u q → u.left ≤ s.left) → run_if x run ≡ done u q → u.left ≤ s.left
+    → ((a : A) → run a ≡ done u q → u.left ≤ s.left) → run_if x run ≡ done u q → u.left ≤ s.left
 if_lowers None run s u q h e = absurd cc
-if_lowers (Some a) run s u q h e = h a refl e
+if_lowers (Some a) run s u q h e = h a e
 
 pub runs_end : RunsEnd
 unfolding ssa_run placed_run framed_run
@@ -80,15 +82,11 @@ runs_end = record {
 pub runs_lower_all : RunsLower
 unfolding ssa_run placed_run framed_run
 runs_lower_all = record {
-  ssa = λ around here b k hs cs s u q lowers e. body_lowers in_vars around here lowers
-      (λ st. st.handlers) vars_track b k _ cs s u q refl e;
+  ssa = λ around here b k hs cs s u q lowers e. body_lowers in_vars around here s b k _ cs u q e lowers;
   placed = λ around here p k hs cs s u q lowers e. if_lowers (Placed.params_in p.spots p.body.params hs no_registers)
-      (λ st. body_run (in_registers p.spots) around here p.body k st cs s) s u q (λ st i h.
-      body_lowers (in_registers p.spots) around here lowers (λ st. st.handlers)
-      (registers_track p.spots) p.body k st cs s u q (params_keep p.spots p.body.params hs no_registers st i) h) e;
+      (λ st. body_run (in_registers p.spots) around here p.body k st cs s) s u q
+      (λ st h. body_lowers (in_registers p.spots) around here s p.body k st cs u q h lowers) e;
   framed = λ around here p k hs cs s u q lowers e. if_lowers (Framed.params_in p.spots p.sizes p.body.params hs _)
-      (λ st. body_run (in_stack p.spots p.sizes) around here p.body k st cs s) s u q (λ st i h.
-      body_lowers (in_stack p.spots p.sizes) around here lowers (open_tags p.spots p.sizes)
-      (stack_track p.spots p.sizes) p.body k st cs s u q
-      (stack_params_keep p.spots p.sizes p.body.params hs _ st i ∙ first_untagged (size_at p.sizes 0)) h) e;
+      (λ st. body_run (in_stack p.spots p.sizes) around here p.body k st cs s) s u q
+      (λ st h. body_lowers (in_stack p.spots p.sizes) around here s p.body k st cs u q h lowers) e;
 }

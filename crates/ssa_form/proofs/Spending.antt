@@ -12,9 +12,9 @@ use Rattle.world_model.specs.World.{Request, Reply, Message}
 use Rattle.world_model.specs.Run.{State, Entry, entered, Outcome, gives, raises, waits, spent, M, ◌>>=◌, after, give, fail, ask, ask_from, noting}
 use Rattle.world_model.specs.Meaning.{single}
 use Rattle.world_model.specs.MapUpdate.{Put, put_each, put_all}
-use Rattle.world_model.specs.Requests.{replied, call_out, sent, send_to, answers, is_send, send_or_call}
+use Rattle.world_model.specs.Requests.{replied, exit_of, call_out, sent, send_to, answers, is_send, send_or_call}
 use Rattle.world_model.specs.Entries.{entry_left}
-use Rattle.world_model.specs.RemoteCalls.{call_erlang, call_terms, apply_term, raise_again}
+use Rattle.world_model.specs.RemoteCalls.{call_erlang, call_terms, apply_term}
 use Rattle.step_machine.specs.Bodies.{Here, calling, callees}
 use Rattle.step_machine.specs.EntryBound.{Lowers}
 use Rattle.ssa_form.specs.Storage.{Around}
@@ -108,6 +108,12 @@ sent_spends t r = by_way r.how
 pub send_spends : (to message : Term) → Spends (send_to to message)
 send_spends to message = bind_spends _ _ (ask_spends _) (sent_spends message)
 
+-- the value of a catch, for which the trace may be asked
+pub exit_spends : (c : Class) (r : Term) → Spends (exit_of c r)
+exit_spends T.throw r = give_spends _
+exit_spends T.exit r = give_spends _
+exit_spends T.error r = bind_spends _ _ (ask_spends W.trace) (λ t. give_spends _)
+
 answers_spends : (a : Answer) → Spends (answers a)
 answers_spends (value t) = give_spends _
 answers_spends (raised c r) = fail_spends _ _
@@ -154,10 +160,6 @@ pub put_all_stays : (qs : List Put) (t : Term) (s : State) → (put_all qs t s).
 unfolding put_all
 put_all_stays qs (T.map ps) s = put_each_stays qs ps s
 put_all_stays qs t s = refl
-
-pub raise_again_stays : (t r : Term) (s : State) → (raise_again t r s).0 ≡ s
-raise_again_stays (T.raw_trace c) r s = refl
-raise_again_stays _ r s = refl
 
 -- Calls of the module's functions.
 

@@ -1,5 +1,5 @@
 -- From one block to the next: a run is over, or it goes on along the flow, and no higher.
-use Rattle.std.proofs.Common.{◌≡◌, ◌≢◌, ◌≤◌, ℕ, zero, suc, List, [], ◌∷◌, length, map, Bool, true, false, ◌&&◌, ◌||◌, Contains, Option, Some, None, refl, sym, ap, subst, ◌∙◌, ⊎_elim, arith, eqb, IsTrue, IsFalse, if◌then◌else◌}
+use Rattle.std.proofs.Common.{◌≡◌, ◌≢◌, ℕ, zero, suc, List, [], ◌∷◌, length, map, Bool, true, false, ◌&&◌, ◌||◌, Contains, Option, Some, None, refl, sym, ap, subst, ◌∙◌, ⊎_elim, arith, eqb, IsTrue, IsFalse, if◌then◌else◌}
 use Rattle.std.proofs.lemmas.Bool.{eq-eqb}
 use Rattle.slab.proofs.SlabLemmas.{Contains-cons, Contains-cons_cases}
 use Rattle.erl_term.specs.Term.{Term, Class}
@@ -19,7 +19,7 @@ use Rattle.ssa_form.specs.Operations.{held, forgotten}
 use Rattle.ssa_form.specs.SsaRun.{Raised, lands, ends_catch, truth_in, picked, choice_of, landed, put_each, phi_values, begins, entered_by, goes_by, switched, ended, returned, leave_next, leave_choose, raised_to, either_end, unless_looking, leave, block_does, blocks, first_handler}
 use Rattle.ssa_form.proofs.Rank.{Lower, AtMost, rank, Fits}
 use Rattle.ssa_form.proofs.OpenHandlers.{Tracks, some_is}
-use Rattle.ssa_form.proofs.OpTurns.{eased, some_holds, when_holds, outside_holds, none_some}
+use Rattle.ssa_form.proofs.Eases.{eased, some_holds, when_holds, outside_holds, none_some}
 use Rattle.ssa_form.proofs.ChainSteps.{Tested, Through, Chosen, Risen, Chained}
 use Rattle.ssa_form.proofs.BlockSteps.{only_then, lands_breaks, Came, puts_only, entered_steps}
 
@@ -34,11 +34,6 @@ pub record Config (S : Type 0) : Type 0 where
 abbrev pub over_and : ℕ → ℕ → ℕ
 over_and zero k = k
 over_and (suc j) k = suc (over_and j k)
-
--- no entries are given back
-abbrev pub Low : State → Ended → Type 0
-Low s (done u q) = u.left ≤ s.left
-Low s _ = Unit {0}
 
 true_no : (b : Bool) → IsTrue b → IsFalse b → ⊥
 true_no b e f = let g : true ≡ false = sym e ∙ f in cc
@@ -108,7 +103,6 @@ module _ {S : Type 0} (o : Storage S) (around : Around) (here : Here) (lowers : 
 
   -- a way along the flow
   pub record Goes (c d : Config S) : Type 0 where
-    pub low : d.state.left ≤ c.state.left
     pub through : List ℕ
     pub passing : Passing b c.at d.at through
     pub falls : IsFalse (any_has breaks_cycle b through) → IsFalse (block_has breaks_cycle (block_at b d.at))
@@ -118,7 +112,7 @@ module _ {S : Type 0} (o : Storage S) (around : Around) (here : Here) (lowers : 
 
   -- a run is over, or it goes on
   pub data Turn (c : Config S) : Type 0 where
-    ends : (j : ℕ) (r : Ended) → ((k : ℕ) → runs (over_and j k) c ≡ r) → r ≢ unfinished → Low c.state r → Turn c
+    ends : (j : ℕ) (r : Ended) → ((k : ℕ) → runs (over_and j k) c ≡ r) → r ≢ unfinished → Turn c
     turns : (d : Config S) → ((k : ℕ) → runs (suc k) c ≡ runs k d) → Good d → Goes c d → Turn c
 
   bad_is : Ended.bad ≢ unfinished
@@ -128,11 +122,11 @@ module _ {S : Type 0} (o : Storage S) (around : Around) (here : Here) (lowers : 
   done_is s q e = cc
 
   is_bad : (c : Config S) → ((k : ℕ) → runs (suc k) c ≡ Ended.bad) → Turn c
-  is_bad c h = ends 1 Ended.bad h bad_is tt
+  is_bad c h = ends 1 Ended.bad h bad_is
 
-  is_done : (c : Config S) (u : State) (q : Outcome Term) → u.left ≤ c.state.left
+  is_done : (c : Config S) (u : State) (q : Outcome Term)
       → ((k : ℕ) → runs (suc k) c ≡ done u q) → Turn c
-  is_done c u q l h = ends 1 (done u q) h (done_is u q) l
+  is_done c u q h = ends 1 (done u q) h (done_is u q)
 
   module _ (c : Config S) (x : Block) (there : block_at b c.at ≡ Some x) where
     -- along the flow into another block
@@ -152,15 +146,14 @@ module _ {S : Type 0} (o : Storage S) (around : Around) (here : Here) (lowers : 
     into m k hs is' e (vs, w) p = (_, goes (point c.at k) (point m 0) vs hs is' e w p)
 
     enters_next : (m k : ℕ) (hs : List Handler) (e : Effect) (g : Frame S) (u : State) → Reached b (point c.at k) hs
-        → Step b (point c.at k) hs (point m 0) (open_in g.store) e → Fits g u → u.left ≤ c.state.left
+        → Step b (point c.at k) hs (point m 0) (open_in g.store) e → Fits g u
         → (IsFalse (any_op breaks_cycle x.chain) → AtMost (rank g u) (rank c.frame c.state))
         → (IsFalse (any_op breaks_cycle x.chain) → IsTrue (any_op is_peek x.chain)
         → Lower (rank g u) (rank c.frame c.state))
         → ((j : ℕ) → runs (suc j) c ≡ blocks o around here b j None c.at m g u) → Turn c
-    enters_next m k hs e g u r p i l q t h = turns
+    enters_next m k hs e g u r p i q t h = turns
         (record { raised = None; from = c.at; at = m; frame = g; state = u }) h
         (record { came = into m k hs (open_in g.store) e r p; fits = i }) (record {
-          low = l;
           through = c.at ∷ [];
           passing = one c.at m (k, hs, open_in g.store, e, r, p);
           falls = λ y z. q (block_holds breaks_cycle y);
@@ -183,7 +176,7 @@ module _ {S : Type 0} (o : Storage S) (around : Around) (here : Here) (lowers : 
           → ((j : ℕ) → runs (suc j) c ≡ blocks o around here b j None c.at m g u) → Turn c
       leads_turn l m e t i p h = enters_next m (length x.chain) (open_in g.store) _ g u
           (p.reached (subst (λ y. IsTrue (tests_nothing (Some y))) (sym e) t))
-          (leads (point c.at (length x.chain)) (open_in g.store) l m (last_there ∙ ap (λ y. Some y) e) i) p.fits p.low
+          (leads (point c.at (length x.chain)) (open_in g.store) l m (last_there ∙ ap (λ y. Some y) e) i) p.fits
           p.falls p.looks h
 
       goes_turn : (a t e : _) (v : Option Bool) → x.last ≡ br a t e
@@ -213,26 +206,22 @@ module _ {S : Type 0} (o : Storage S) (around : Around) (here : Here) (lowers : 
 
       -- a result, or a broken rule
       abbrev Fine : After S → Type 0
-      Fine a = (ended o around here a ≢ unfinished) × Low c.state (ended o around here a)
+      Fine a = ended o around here a ≢ unfinished
 
-      returned_ends : (v : Held) → u.left ≤ c.state.left → (returned o around here v g u ≢ unfinished)
-          × Low c.state (returned o around here v g u)
-      returned_ends (term t) l = outside_holds Fine (bad_is, tt) g _
-          (λ w. when_holds Fine (bad_is, tt) (eqb g.save 0) _
-          (λ z. some_holds Fine (bad_is, tt) (o.leaves ends_body g.store) _ (λ st p. (done_is u (gives t), l))))
-      returned_ends unset l = (bad_is, tt)
-      returned_ends (context n) l = (bad_is, tt)
-      returned_ends (position n) l = (bad_is, tt)
-      returned_ends (marker n) l = (bad_is, tt)
+      returned_ends : (v : Held) → returned o around here v g u ≢ unfinished
+      returned_ends (term t) = outside_holds Fine bad_is g _ (λ w. when_holds Fine bad_is (eqb g.save 0) _
+          (λ z. some_holds Fine bad_is (o.leaves ends_body g.store) _ (λ st p. done_is u (gives t))))
+      returned_ends unset = bad_is
+      returned_ends (context n) = bad_is
+      returned_ends (position n) = bad_is
+      returned_ends (marker n) = bad_is
 
       on_turn : (l : Last) → x.last ≡ l → Through b c.at x there open_in x.chain c.frame c.state g u
           → ((j : ℕ) → runs (suc j) c ≡ leave_next o around here (blocks o around here b j) c.at l g u) → Turn c
       on_turn (br a t e) l p h = branch_turn a t e (eqb t e) l p h
       on_turn (succeeded v t e) l p h = is_bad c h
       on_turn (switch a d cs) l p h = switch_turn a d cs (held o around here g a) l p h
-      on_turn (ret a) l p h = let r : (returned o around here (held o around here g a) g u ≢ unfinished)
-          × Low c.state (returned o around here (held o around here g a) g u) =
-          returned_ends (held o around here g a) p.low in ends 1 _ h r.0 r.1
+      on_turn (ret a) l p h = ends 1 _ h (returned_ends (held o around here g a))
 
       -- by the success of a set
 
@@ -244,12 +233,12 @@ module _ {S : Type 0} (o : Storage S) (around : Around) (here : Here) (lowers : 
           (along_edge b c.at t.holds (given_vars p.by))) (sym p.handlers)
           (succeeds (point c.at p.at) p.before p.by t.var t.holds p.tested p.is_there
           (ap last_of there ∙ ap (λ y. Some y) (e ∙ t.last))))
-          p.fits p.low p.falls p.looks
+          p.fits p.falls p.looks
           (λ j. h j ∙ ap (λ y. leave_choose o around here (blocks o around here b j) c.at y true g u) t.last)
       pick_turn false l e p t h = enters_next p.tested p.at p.before _ g u p.reached
           (subst (λ hs. Step b (point c.at p.at) p.before (point p.tested 0) hs (along_edge b c.at p.tested []))
           (sym p.handlers) (fails (point c.at p.at) p.before p.by p.tested p.is_there (p.starts refl)))
-          p.fits p.low p.falls p.looks
+          p.fits p.falls p.looks
           (λ j. h j ∙ ap (λ y. leave_choose o around here (blocks o around here b j) c.at y false g u) t.last)
 
   -- A raise.
@@ -288,14 +277,13 @@ module _ {S : Type 0} (o : Storage S) (around : Around) (here : Here) (lowers : 
     unfolding blocks
     lands_turn h is' k r false t w e p i = ends 2 Ended.bad
         (λ j. i (suc j) ∙ unlanded (block_at b h.landing) (landing_at h k r)
-        (record { tag = h.tag; class = k; reason = r }) (blocks o around here b j) t) bad_is tt
+        (record { tag = h.tag; class = k; reason = r }) (blocks o around here b j) t) bad_is
     lands_turn h is' k r true t w e p i = turns (landing_at h k r) i
         (record {
           came = (h, is', tracks.forgets g.store ∙ e, into_landing);
           fits = λ m q. absurd (none_some g.window m w q);
         })
         (record {
-          low = p.low;
           through = c.at ∷ [];
           passing = one c.at h.landing (p.at, h ∷ is', is', _, reached, raised);
           falls = λ y z. absurd (true_no _ landing_breaks z);
@@ -324,7 +312,7 @@ module _ {S : Type 0} (o : Storage S) (around : Around) (here : Here) (lowers : 
     raised_turn None k r e w p i = at_start (eqb g.save 0) i
       where
         at_start : (t : Bool) → ((j : ℕ) → runs (suc j) c ≡ (if t then done u (Run.raises k r) else Ended.bad)) → Turn c
-        at_start true i = is_done c u (Run.raises k r) p.low i
+        at_start true i = is_done c u (Run.raises k r) i
         at_start false i = is_bad c i
     raised_turn (Some h) k r e w p i = let f : (is' : List Handler) × (open_in g.store ≡ h ∷ is') =
         first_is h (open_in g.store) (sym (tracks.first g.store) ∙ e) in
@@ -346,7 +334,7 @@ module _ {S : Type 0} (o : Storage S) (around : Around) (here : Here) (lowers : 
   leave_turn c x there (next g u) p i = on_turn c x there g u x.last refl p i
   leave_turn c x there (choose v g u) p i = pick_turn c x there g u v x.last refl p p.last i
   leave_turn c x there (raise k r g u) p i = looking_turn c x there g u g.window k r refl p i
-  leave_turn c x there (finish u q) p i = is_done c u q p i
+  leave_turn c x there (finish u q) p i = is_done c u q i
   leave_turn c x there After.bad p i = is_bad c i
 
   pub turn : (c : Config S) → Good c → Turn c

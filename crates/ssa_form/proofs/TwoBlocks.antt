@@ -1,10 +1,12 @@
 -- How two runs go from one block to the next: by a last, and into a block by its phis or its landing.
-use Rattle.std.proofs.Common.{◌≡◌, ℕ, List, [], ◌∷◌, map, Bool, true, false, ◌&&◌, if◌then◌else◌, Contains, Option, Some, None, IsTrue, refl, sym, ap, ◌∙◌, subst, eqb}
+use Rattle.std.proofs.Common.{◌≡◌, ℕ, List, [], ◌∷◌, map, Bool, true, false, ◌&&◌, if◌then◌else◌, Contains, Option, Some, None, IsTrue, refl, sym, ap, ◌∙◌, subst, eqb, codes}
 use Rattle.erl_term.specs.Term as T
-use Rattle.erl_term.specs.Term.{Term}
-use Rattle.erl_term.specs.Terms.{Values, only, class_word}
-use Rattle.world_model.specs.World.{Message}
-use Rattle.world_model.specs.Run.{State, Outcome, gives, raises, waits, spent}
+use Rattle.erl_term.specs.Term.{Term, Class}
+use Rattle.erl_term.specs.Terms.{Values, only, class_word, tagged}
+use Rattle.world_model.specs.World as World
+use Rattle.world_model.specs.World.{Message, Reply}
+use Rattle.world_model.specs.Meaning.{single}
+use Rattle.world_model.specs.Run.{State, Outcome, gives, raises, waits, spent, going_on, ask_from}
 use Rattle.world_model.specs.Requests.{exit_of}
 use Rattle.step_machine.specs.Bodies.{Here}
 use Rattle.step_machine.specs.Frames.{MatchContext}
@@ -14,8 +16,9 @@ use Rattle.ssa_form.specs.Flow.{targets}
 use Rattle.ssa_form.specs.Operations.{held, put, follows}
 use Rattle.ssa_form.specs.SsaRun.{Raised, reads_tag, is_landing, is_catch_end, none_before, lands, ends_catch, truth_in, picked, either_end, choice_of, Go, goes_by, switched, ended, returned, leave_next, phi_values, put_each, closed, catches, landed, begins, entered_by, chain_does}
 use Rattle.ssa_form.proofs.Turns.{here_in, choice_in, picked_in}
-use Rattle.ssa_form.proofs.TwoStorages.{Opt, opt_none, opt_some, at, lk}
-use Rattle.ssa_form.proofs.TwoRuns.{Same, same_done, same_bad, Acted, acted, acted_bad, Out, out_up, out_over, out_bad}
+use Rattle.ssa_form.proofs.Moves.{at}
+use Rattle.ssa_form.proofs.TwoStorages.{Opt, opt_none, opt_some, lk}
+use Rattle.ssa_form.proofs.TwoRuns.{Same, same_done, same_bad, Acted, acted, acted_bad, Out, out_over, out_bad}
 
 -- the operand that a last reads
 abbrev pub read_by : Last → Option Arg
@@ -224,26 +227,29 @@ module _ {S U : Type 0} (o : Storage S) (p : Storage U) (around : Around) (here 
 
     -- three landings that begin both chains
     pub landed_sim : (e : Raised) (a b d : Set) → a.op ≡ landing → (as' bs : List FrameAction) (l l' : Last)
-        (us vs : List Set) (r q0 q1 q2 q3 : S → U → Type 0) → Closes r e.tag q0 → Puts q0 a.dst q1 → Puts q1 b.dst q2
-        → Puts q2 d.dst q3 → Goes q3 (chain_does o around here as' l us) (chain_does p around here bs l' vs) → (x : S)
+        (us vs : List Set) (r q0 q1 q2 q3 : S → U → Type 0) → Closes r e.tag q0
+        → (IsTrue (lands e.tag a && lands e.tag b && lands e.tag d)
+        → Puts q0 a.dst q1 × Puts q1 b.dst q2 × Puts q2 d.dst q3)
+        → Goes q3 (chain_does o around here as' l us) (chain_does p around here bs l' vs) → (x : S)
         (y : U) (c : List MatchContext) (i : ℕ) (w : Option Message) (s : State) → (w ≡ None → r x y)
         → Outs (landed o around here as' l (a ∷ b ∷ d ∷ us) e (at x c i w) s)
         (landed p around here bs l' (a ∷ b ∷ d ∷ vs) e (at y c i w) s)
-    landed_sim e a b d op as' bs l l' us vs r q0 q1 q2 q3 g pa pb pd rest x y c i w s z =
-        by (lands e.tag a && lands e.tag b && lands e.tag d)
+    landed_sim e a b d op as' bs l l' us vs r q0 q1 q2 q3 g puts rest x y c i w s z =
+        by (lands e.tag a && lands e.tag b && lands e.tag d) puts
       where
-        by : (t : Bool)
+        by : (t : Bool) → (IsTrue t → Puts q0 a.dst q1 × Puts q1 b.dst q2 × Puts q2 d.dst q3)
             → Outs (if t then closed o around here e.tag (at x c i w)
             (takes_raised o e a b d (chain_does o around here as' l us) s)
             else catches o around here as' l (a ∷ b ∷ d ∷ us) e (at x c i w) s)
             (if t then closed p around here e.tag (at y c i w)
             (takes_raised p e a b d (chain_does p around here bs l' vs) s)
             else catches p around here bs l' (a ∷ b ∷ d ∷ vs) e (at y c i w) s)
-        by true = closed_sim r q0 e.tag g (takes_raised o e a b d (chain_does o around here as' l us) s)
+        by true h = closed_sim r q0 e.tag g (takes_raised o e a b d (chain_does o around here as' l us) s)
             (takes_raised p e a b d (chain_does p around here bs l' vs) s) c i
-            (λ x' y' z'. takes_sim e a b d q0 q1 q2 q3 pa pb pd (chain_does o around here as' l us)
+            (λ x' y' z'. takes_sim e a b d q0 q1 q2 q3 (h refl).0 (h refl).1 (h refl).2
+            (chain_does o around here as' l us)
             (chain_does p around here bs l' vs) rest x' y' c i s z') w x y z
-        by false = when_off (ends_catch e.tag a) (closed o around here e.tag (at x c i w)
+        by false h = when_off (ends_catch e.tag a) (closed o around here e.tag (at x c i w)
             (λ f. go_on (follows o around here a.dst f (exit_of e.class e.reason s))
             (chain_does o around here as' l (b ∷ d ∷ us))))
             (catches p around here bs l' (a ∷ b ∷ d ∷ vs) e (at y c i w) s)
@@ -253,26 +259,37 @@ module _ {S U : Type 0} (o : Storage S) (p : Storage U) (around : Around) (here 
     if_off true a z e = absurd cc
     if_off false a z e = refl
 
-    follows_then : (q0 q1 : S → U → Type 0) (d : Option ℕ) → Puts q0 d q1 → ((x : S) (y : U) → q0 x y → rose x y)
+    follows_then : (q0 q1 : S → U → Type 0) (d : Option ℕ) → Puts q0 d q1
         → (k : Frame S → State → After S) (k' : Frame U → State → After U) → Goes q1 k k' → (z : State × Outcome Values)
-        (x : S) (y : U) (c : List MatchContext) (i : ℕ) → q0 x y
+        → ((m : Class) (t : Term) → z.1 ≡ raises m t → ⊥) → (x : S) (y : U) (c : List MatchContext) (i : ℕ) → q0 x y
         → Outs (go_on (follows o around here d (at x c i None) z) k)
         (go_on (follows p around here d (at y c i None) z) k')
-    follows_then q0 q1 d g up k k' rest (u, gives vs) x y c i h =
+    follows_then q0 q1 d g k k' rest (u, gives vs) never x y c i h =
         wrote_then q1 _ _ k k' (put_wrote q0 q1 d (term (only vs)) g x y c i u h) rest
-    follows_then q0 q1 d g up k k' rest (u, raises m t) x y c i h = out_up m t x y c i None u (up x y h)
-    follows_then q0 q1 d g up k k' rest (u, waits q) x y c i h = out_over u (waits q)
-    follows_then q0 q1 d g up k k' rest (u, spent) x y c i h = out_over u spent
+    follows_then q0 q1 d g k k' rest (u, raises m t) never x y c i h = absurd (never m t refl)
+    follows_then q0 q1 d g k k' rest (u, waits q) never x y c i h = out_over u (waits q)
+    follows_then q0 q1 d g k k' rest (u, spent) never x y c i h = out_over u spent
+
+    -- the value of a catch is no raise
+    asked_gives : (r : Term) (rs : List Reply) (s : State) (m : Class) (t : Term)
+        → (going_on (ask_from World.trace rs s)
+        (λ q. single (tagged (codes "EXIT") (T.tuple (T.more r (T.more q.term T.none)))))).1 ≡ raises m t → ⊥
+    asked_gives r [] s m t e = cc
+    asked_gives r (q ∷ rs) s m t e = cc
+
+    exit_gives : (k : Class) (r : Term) (s : State) (m : Class) (t : Term) → (exit_of k r s).1 ≡ raises m t → ⊥
+    exit_gives T.throw r s m t e = cc
+    exit_gives T.exit r s m t e = cc
+    exit_gives T.error r s m t e = asked_gives r s.replies s m t e
 
     -- the end of a catch that begins both chains
     pub caught_sim : (e : Raised) (a : Set) → a.op ≡ catch_end → (as' bs : List FrameAction) (l l' : Last)
         (us vs : List Set) (r q0 q1 : S → U → Type 0) → Closes r e.tag q0 → Puts q0 a.dst q1
-        → ((x : S) (y : U) → q0 x y → rose x y)
         → Goes q1 (chain_does o around here as' l us) (chain_does p around here bs l' vs) → (x : S) (y : U)
         (c : List MatchContext) (i : ℕ) (w : Option Message) (s : State) → (w ≡ None → r x y)
         → Outs (landed o around here as' l (a ∷ us) e (at x c i w) s)
         (landed p around here bs l' (a ∷ vs) e (at y c i w) s)
-    caught_sim e a op as' bs l l' us vs r q0 q1 g pa up rest x y c i w s z =
+    caught_sim e a op as' bs l l' us vs r q0 q1 g pa rest x y c i w s z =
         subst (λ h. Outs h (landed p around here bs l' (a ∷ vs) e (at y c i w) s))
         (sym (is_catch o as' l us (at x c i w)))
         (subst (λ h. Outs (catches o around here as' l (a ∷ us) e (at x c i w) s) h)
@@ -304,8 +321,26 @@ module _ {S U : Type 0} (o : Storage S) (p : Storage U) (around : Around) (here 
             (chain_does o around here as' l us))
             (λ f. go_on (follows p around here a.dst f (exit_of e.class e.reason s))
             (chain_does p around here bs l' vs))
-            c i (λ x' y' h. follows_then q0 q1 a.dst pa up (chain_does o around here as' l us)
-            (chain_does p around here bs l' vs) rest (exit_of e.class e.reason s) x' y' c i h) w x y z)
+            c i (λ x' y' h. follows_then q0 q1 a.dst pa (chain_does o around here as' l us)
+            (chain_does p around here bs l' vs) rest (exit_of e.class e.reason s) (exit_gives e.class e.reason s) x' y'
+            c i h) w x y z)
+
+    -- a chain that begins with neither takes no raise
+    pub unlanded_sim : (e : Raised) (a : Set) (us : List Set) → is_catch_end a.op ≡ false
+        → ((b d : Set) (vs : List Set) → us ≡ b ∷ d ∷ vs → is_landing a.op ≡ false)
+        → (as' : List FrameAction) (l : Last)
+        (f : Frame S) (s : State) (z : After U) → Outs (landed o around here as' l (a ∷ us) e f s) z
+    unlanded_sim e a [] g h as' l f s z = when_off (ends_catch e.tag a) _ z
+        (ap (λ t. t && reads_tag e.tag a.args && none_before a.before) g)
+    unlanded_sim e a (b ∷ []) g h as' l f s z = when_off (ends_catch e.tag a) _ z
+        (ap (λ t. t && reads_tag e.tag a.args && none_before a.before) g)
+    unlanded_sim e a (b ∷ d ∷ us) g h as' l f s z = subst (λ t. Outs t z)
+        (sym (if_off (lands e.tag a && lands e.tag b && lands e.tag d)
+        (closed o around here e.tag f (takes_raised o e a b d (chain_does o around here as' l us) s))
+        (catches o around here as' l (a ∷ b ∷ d ∷ us) e f s)
+        (ap (λ t. (t && reads_tag e.tag a.args && none_before a.before) && lands e.tag b && lands e.tag d)
+        (h b d us refl))))
+        (when_off (ends_catch e.tag a) _ z (ap (λ t. t && reads_tag e.tag a.args && none_before a.before) g))
 
     -- Entries of blocks.
 

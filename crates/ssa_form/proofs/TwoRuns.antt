@@ -1,30 +1,50 @@
 -- From one operation to a chain and to whole runs, for two storages and two bodies.
-use Rattle.std.proofs.Common.{◌≡◌, ℕ, zero, suc, List, [], ◌∷◌, Bool, true, false, ◌&&◌, Option, Some, None, refl, sym, ap, subst, ◌∙◌, eqb, if◌then◌else◌}
+use Rattle.std.proofs.Common.{◌≡◌, ℕ, zero, suc, List, [], ◌∷◌, Bool, true, false, ◌&&◌, Option, Some, None, refl, sym, ap, subst, ◌∙◌, eqb, IsTrue, IsFalse, if◌then◌else◌}
 use Rattle.erl_term.specs.Term.{Term, Class}
+use Rattle.erl_term.specs.Terms.{Values}
 use Rattle.world_model.specs.World.{Message}
 use Rattle.world_model.specs.Run as Run
 use Rattle.world_model.specs.Run.{State, Outcome}
 use Rattle.step_machine.specs.Bodies.{Here}
 use Rattle.step_machine.specs.Frames.{MatchContext}
-use Rattle.ssa_form.specs.Ssa.{FrameAction, Set, Last, br, succeeded, switch, ret, Block, Body, block_at}
-use Rattle.ssa_form.specs.Storage.{Handler, Leaving, Storage, Frame, After, next, choose, raise, finish, Ended, unfinished, Mode, Around, go_on}
-use Rattle.ssa_form.specs.SetFacts.{is_tests}
-use Rattle.ssa_form.specs.Operations.{all_held, does}
+use Rattle.ssa_form.specs.Ssa as Ssa
+use Rattle.ssa_form.specs.Ssa.{Arg, Op, FrameAction, Set, Last, br, succeeded, switch, ret, Block, Body, block_at}
+use Rattle.ssa_form.specs.Storage.{Held, Handler, Leaving, Storage, Frame, After, next, choose, raise, finish, Ended, unfinished, Mode, Around, go_on, if_some}
+use Rattle.ssa_form.specs.Values.{terms_of}
+use Rattle.ssa_form.specs.SetFacts.{is_tests, is_try_start, may_raise, names_handler}
+use Rattle.ssa_form.specs.Operations.{all_held, on_terms, does}
 use Rattle.ssa_form.specs.SsaRun.{Raised, mode_of, picked, acts_do, set_does, chain_does, Go, leave_next, leave_choose, raised_to, leave, entered_by, block_does, blocks}
-use Rattle.ssa_form.proofs.TwoStorages.{at, lk, writes, traits, Two, Sim, sim_on, sim_pick, sim_up, sim_over, sim_bad, Keeps, leaves_by, does_sim}
+use Rattle.ssa_form.proofs.Moves.{at}
+use Rattle.ssa_form.proofs.TwoStorages.{lk, is_try_end, writes, traits, Two, Sim, sim_on, sim_pick, sim_up, sim_over, sim_bad, Keeps, leaves_by}
+use Rattle.ssa_form.proofs.TwoDoes.{does_sim}
 
 -- Whole runs. The two bodies have blocks with the same lasts; arrives: where a block is entered, with what was raised.
 pub data Same : Ended → Ended → Type 0 where
   same_done : (s : State) (q : Outcome Term) → Same (Ended.done s q) (Ended.done s q)
   same_bad : (z : Ended) → Same Ended.bad z
-  same_unfinished : (z : Ended) → Same unfinished z
+  same_unfinished : Same unfinished unfinished
 
 pub same_gives : (a z : Ended) → Same a z → (s : State) (q : Outcome Term) → a ≡ Ended.done s q → z ≡ Ended.done s q
 same_gives _ _ (same_done u r) s q e = e
 same_gives _ _ (same_bad z) s q e = absurd cc
-same_gives _ _ (same_unfinished z) s q e = absurd cc
+same_gives _ _ same_unfinished s q e = absurd cc
 
 module _ {S T : Type 0} (o : Storage S) (p : Storage T) (around : Around) (here : Here) where
+  -- an operation on the tag of a handler does not look at its value
+  nothing_same : (a b : Option Values) → if_some {S = T} a (λ vs. After.bad) ≡ if_some b (λ vs. After.bad)
+  nothing_same None None = refl
+  nothing_same None (Some b) = refl
+  nothing_same (Some a) None = refl
+  nothing_same (Some a) (Some b) = refl
+
+  tags_same : (op : Op) → IsTrue (names_handler op) → (as' : List Arg) (m : Mode) (d : Option ℕ) (hs ks : List Held)
+      (f : Frame T) (s : State) → does p around here op as' m d hs f s ≡ does p around here op as' m d ks f s
+  unfolding does on_terms
+  tags_same Ssa.try_end e as' m d hs ks f s = refl
+  tags_same Ssa.landing e as' m d hs ks f s = nothing_same (terms_of hs) (terms_of ks)
+  tags_same Ssa.catch_end e as' m d hs ks f s = nothing_same (terms_of hs) (terms_of ks)
+  tags_same op e as' m d hs ks f s = absurd cc
+
   -- frame actions: on to a relation, or a broken rule on the first side
   pub data Acted (r : Bool → S → T → Type 0) : After S → After T → Type 0 where
     acted : (x : S) (y : T) (c : List MatchContext) (n : ℕ) (w : Option Message) (s : State) → r (lk w) x y
@@ -56,9 +76,11 @@ module _ {S T : Type 0} (o : Storage S) (p : Storage T) (around : Around) (here 
       pub before : Bool → S → T → Type 0
       pub cleared : S → T → Type 0
       pub done : Bool → Bool → S → T → Type 0
+      pub next : Bool → S → T → Type 0
       pub raised : S → T → Type 0
       pub acts : Acts a before u.before v.before
-      pub reads : (x : S) (y : T) (c : List MatchContext) (n : ℕ) (w : Option Message) → before (lk w) x y
+      pub reads : IsFalse (names_handler u.op) → (x : S) (y : T) (c : List MatchContext) (n : ℕ)
+          (w : Option Message) → before (lk w) x y
           → all_held p around here (at y c n w) u.args ≡ all_held o around here (at x c n w) u.args
       pub kept : Keeps (record {
         o = o;
@@ -66,15 +88,19 @@ module _ {S T : Type 0} (o : Storage S) (p : Storage T) (around : Around) (here 
         around = around;
         here = here;
         ok = ok;
+        mode = m;
         dst = u.dst;
         before = before;
         cleared = cleared;
         done = done;
         rose = raised;
-      }) (traits u.op)
+      }) (traits m u.op)
       pub leaves : (l : Leaving) → leaves_by u.op m l → ok l
-      pub rises : (x : S) (y : T) → raised x y → rose x y
-      pub picks : true ≡ is_tests m → (b w : Bool) (x : S) (y : T) → done (writes u.op && b) w x y → at_pick b w x y
+      pub rises : IsTrue (may_raise m u.op) → (x : S) (y : T) → raised x y → rose x y
+      pub picks : IsTrue (is_tests m) → IsFalse (is_try_end u.op) → (b : Bool) → (b ≡ false
+          → IsFalse (is_try_start u.op))
+          → (w : Bool) (x : S) (y : T) → done (writes u.op && b) w x y → at_pick b w x y
+      pub passes : IsFalse (is_try_start u.op) → (w : Bool) (x : S) (y : T) → done (writes u.op) w x y → next w x y
 
     module _ (a : Bool → S → T → Type 0) (m : Mode) (u v : Set) (pl : SetPlan a m u v) where
       abbrev pair : Two S T
@@ -84,6 +110,7 @@ module _ {S T : Type 0} (o : Storage S) (p : Storage T) (around : Around) (here 
         around = around;
         here = here;
         ok = pl.ok;
+        mode = m;
         dst = u.dst;
         before = pl.before;
         cleared = pl.cleared;
@@ -91,41 +118,55 @@ module _ {S T : Type 0} (o : Storage S) (p : Storage T) (around : Around) (here 
         rose = pl.raised;
       }
 
-      abbrev SetSim : After S → After T → Type 0
-      SetSim z z' = Sim pair (writes u.op) (is_tests m) z z'
+      abbrev SetSim : ℕ → Option Message → State → After S → After T → Type 0
+      SetSim n w s z z' = Sim pair (traits m u.op) n w s z z'
 
-      same_does : (y : T) (c : List MatchContext) (n : ℕ) (w : Option Message) (s : State)
-          → does p around here v.op v.args m v.dst (all_held p around here (at y c n w) v.args) (at y c n w) s ≡ does p
-          around here u.op u.args m u.dst (all_held p around here (at y c n w) u.args) (at y c n w) s
-      same_does y c n w s = λ i. does p around here (pl.op i) (pl.args i) m (pl.dst i)
-          (all_held p around here (at y c n w) (pl.args i)) (at y c n w) s
+      same_does : (hs : List Held) (f : Frame T) (s : State)
+          → does p around here v.op v.args m v.dst hs f s ≡ does p around here u.op u.args m u.dst hs f s
+      same_does hs f s = λ i. does p around here (pl.op i) (pl.args i) m (pl.dst i) hs f s
 
-      after_acts : (z : After S) (z' : After T) → Acted pl.before z z' →
-          SetSim (go_on z λ g t. does o around here u.op u.args m u.dst (all_held o around here g u.args) g t)
-          (go_on z' λ g t. does p around here v.op v.args m v.dst (all_held p around here g v.args) g t)
-      after_acts _ _ (acted x y c n w s r) =
-          subst (λ z. SetSim (does o around here u.op u.args m u.dst (all_held o around here (at x c n w) u.args)
+      same_held : (x : S) (y : T) (c : List MatchContext) (n : ℕ) (w : Option Message) (s : State)
+          → pl.before (lk w) x y → (b : Bool) → names_handler u.op ≡ b
+          → does p around here u.op u.args m u.dst (all_held p around here (at y c n w) v.args) (at y c n w) s
+          ≡ does p around here u.op u.args m u.dst (all_held o around here (at x c n w) u.args) (at y c n w) s
+      same_held x y c n w s r true e = tags_same u.op e u.args m u.dst _ _ (at y c n w) s
+      same_held x y c n w s r false e = ap (λ hs. does p around here u.op u.args m u.dst hs (at y c n w) s)
+          (ap (λ as'. all_held p around here (at y c n w) as') pl.args ∙ pl.reads e x y c n w r)
+
+      after_acts : (n : ℕ) (w : Option Message) (s : State) (x : S) (y : T) (c : List MatchContext)
+          → pl.before (lk w) x y
+          → SetSim n w s
+          (does o around here u.op u.args m u.dst (all_held o around here (at x c n w) u.args) (at x c n w) s)
+          (does p around here v.op v.args m v.dst (all_held p around here (at y c n w) v.args) (at y c n w) s)
+      after_acts n w s x y c r =
+          subst (λ z. SetSim n w s (does o around here u.op u.args m u.dst (all_held o around here (at x c n w) u.args)
           (at x c n w) s) z)
-          (sym (same_does y c n w s ∙ ap (λ hs. does p around here u.op u.args m u.dst hs (at y c n w) s)
-          (pl.reads x y c n w r)))
-          (does_sim pair x y c n w r s u.op pl.kept u.args m pl.leaves (all_held o around here (at x c n w) u.args))
-      after_acts _ _ (acted_bad z) = sim_bad _
-
-      set_sim : (x : S) (y : T) (c : List MatchContext) (n : ℕ) (w : Option Message) (s : State) → a (lk w) x y
-          → SetSim (set_does o around here m u (at x c n w) s) (set_does p around here m v (at y c n w) s)
-      set_sim x y c n w s r = after_acts _ _ (pl.acts x y c n w s r)
+          (sym (same_does (all_held p around here (at y c n w) v.args) (at y c n w) s
+          ∙ same_held x y c n w s r (names_handler u.op) refl))
+          (does_sim pair x y c n w r s u.op pl.kept u.args pl.leaves (all_held o around here (at x c n w) u.args))
 
       -- and then
-      then_sim : (z : After S) (z' : After T) (k : Frame S → State → After S) (k' : Frame T → State → After T)
-          → SetSim z z' →
-          ((x : S) (y : T) (c : List MatchContext) (n : ℕ) (w : Option Message) (s : State)
-          → pl.done (writes u.op) (lk w) x y → Out (k (at x c n w) s) (k' (at y c n w) s))
+      then_sim : (i : ℕ) (j : Option Message) (t : State) (z : After S) (z' : After T)
+          (k : Frame S → State → After S) (k' : Frame T → State → After T) → SetSim i j t z z'
+          → ((x : S) (y : T) (c : List MatchContext) (n : ℕ) (w : Option Message) (s : State)
+          → pl.next (lk w) x y → Out (k (at x c n w) s) (k' (at y c n w) s))
           → Out (go_on z k) (go_on z' k')
-      then_sim _ _ k k' (sim_on x y c n w s r) h = h x y c n w s r
-      then_sim _ _ k k' (sim_pick b t x y c n w s r) h = out_pick b x y c n w s (pl.picks t b (lk w) x y r)
-      then_sim _ _ k k' (sim_up c0 r0 x y c n w s r) h = out_up c0 r0 x y c n w s (pl.rises x y r)
-      then_sim _ _ k k' (sim_over s q) h = out_over s q
-      then_sim _ _ k k' (sim_bad z) h = out_bad (go_on z k')
+      then_sim i j t _ _ k k' (sim_on l q x y c n w s r g) h = h x y c n w s (pl.passes q (lk w) x y r)
+      then_sim i j t _ _ k k' (sim_pick b e q f x y c n w s r g) h = out_pick b x y c n w s (pl.picks e q b f
+          (lk w) x y r)
+      then_sim i j t _ _ k k' (sim_up e c0 r0 x y c n w s r g) h = out_up c0 r0 x y c n w s (pl.rises e x y r)
+      then_sim i j t _ _ k k' (sim_over s q g) h = out_over s q
+      then_sim i j t _ _ k k' (sim_bad z) h = out_bad (go_on z k')
+
+      set_sim : (z : After S) (z' : After T) (k : Frame S → State → After S) (k' : Frame T → State → After T)
+          → Acted pl.before z z'
+          → ((x : S) (y : T) (c : List MatchContext) (n : ℕ) (w : Option Message) (s : State)
+          → pl.next (lk w) x y → Out (k (at x c n w) s) (k' (at y c n w) s))
+          → Out
+          (go_on (go_on z λ g t. does o around here u.op u.args m u.dst (all_held o around here g u.args) g t) k)
+          (go_on (go_on z' λ g t. does p around here v.op v.args m v.dst (all_held p around here g v.args) g t) k')
+      set_sim _ _ k k' (acted x y c n w s r) h = then_sim n w s _ _ k k' (after_acts n w s x y c r) h
+      set_sim _ _ k k' (acted_bad z) h = out_bad _
 
     -- a plan for each set of two chains, and for the actions before their lasts
     module _ (as' bs : List FrameAction) (l l' : Last) where
@@ -133,7 +174,7 @@ module _ {S T : Type 0} (o : Storage S) (p : Storage T) (around : Around) (here 
         at_end : (a : Bool → S → T → Type 0) → Acts a at_last as' bs → Plan a [] []
         and_set : (a : Bool → S → T → Type 0) (u v : Set) (us vs : List Set)
             (pl : SetPlan a (mode_of u.dst us as' l) u v) → mode_of v.dst vs bs l' ≡ mode_of u.dst us as' l →
-            Plan (pl.done (writes u.op)) us vs → Plan a (u ∷ us) (v ∷ vs)
+            Plan pl.next us vs → Plan a (u ∷ us) (v ∷ vs)
 
       ended : (z : After S) (z' : After T) → Acted at_last z z' → Out z z'
       ended _ _ (acted x y c n w s r) = out_on x y c n w s r
@@ -145,12 +186,10 @@ module _ {S T : Type 0} (o : Storage S) (p : Storage T) (around : Around) (here 
           Out (chain_does o around here as' l us (at x c n w) s) (chain_does p around here bs l' vs (at y c n w) s)
       chain_sim _ _ _ (at_end a h) x y c n w s r = ended _ _ (h x y c n w s r)
       chain_sim _ _ _ (and_set a u v us vs pl e rest) x y c n w s r =
-          then_sim a (mode_of u.dst us as' l) u v pl _ _ _ _
-          (subst (λ m. Sim (pair a (mode_of u.dst us as' l) u v pl) (writes u.op) (is_tests (mode_of u.dst us as' l))
-          (set_does o around here (mode_of u.dst us as' l) u (at x c n w) s)
-          (set_does p around here m v (at y c n w) s)) (sym e)
-          (set_sim a (mode_of u.dst us as' l) u v pl x y c n w s r))
-          (chain_sim (pl.done (writes u.op)) us vs rest)
+          subst (λ m. Out (chain_does o around here as' l (u ∷ us) (at x c n w) s)
+          (go_on (set_does p around here m v (at y c n w) s) (chain_does p around here bs l' vs))) (sym e)
+          (set_sim a (mode_of u.dst us as' l) u v pl _ _ _ _ (pl.acts x y c n w s r)
+          (chain_sim pl.next us vs rest))
 
   module _ (b b' : Body) (arrives : Option Raised → ℕ → ℕ → Bool → S → T → Type 0) (at_last : ℕ → Bool → S → T → Type 0)
       (at_pick : ℕ → Bool → Bool → S → T → Type 0) (rose : ℕ → S → T → Type 0) where
@@ -241,7 +280,7 @@ module _ {S T : Type 0} (o : Storage S) (p : Storage T) (around : Around) (here 
           (w : Option Message) (s : State) → arrives e from n (lk w) x y →
           Same (blocks o around here b k e from n (at x c sv w) s) (blocks p around here b' k e from n (at y c sv w) s)
       unfolding blocks
-      run_sim zero e from n x y c sv w s r = same_unfinished unfinished
+      run_sim zero e from n x y c sv w s r = same_unfinished
       run_sim (suc k) e from n x y c sv w s r = by_match (blocks o around here b k) (blocks p around here b' k) n
           (λ e' t x' y' c' sv' w' s' i. run_sim k e' n t x' y' c' sv' w' s' i) e from x y c sv w s r (block_at b n)
           (block_at b' n) (match n)
