@@ -200,7 +200,7 @@ param_alike ps hs w v e = ap (λ t. if t then params_hold ps hs v else w v) e
 
 pub unset_is_never_seen : UnsetIsNeverSeen
 unfolding ssa_run
-unset_is_never_seen around here b k hs cs s w formed lowers = both_ways _ _
+unset_is_never_seen around here b k hs cs s w formed = both_ways _ _
     (follows_so b around here formed k (beside_params b.params hs w) (params_hold b.params hs) cs s
     (λ v m t. param_alike b.params hs w v m))
     (follows_so b around here formed k (params_hold b.params hs) (beside_params b.params hs w) cs s

@@ -66,6 +66,6 @@ abbrev pub UnsetIsNeverSeen : Type 0
 UnsetIsNeverSeen =
     (around : Around) (here : Here) (b : Body) (k : ℕ) (hs : List Held) (cs : List MatchContext) (s : State)
     (w : ℕ → Held)
-    → WellFormed b → Lowers here.enter
+    → WellFormed b
     → body_run in_vars around here b k (record { values = beside_params b.params hs w; handlers = [] }) cs s
     ≡ ssa_run around here b k hs cs s
