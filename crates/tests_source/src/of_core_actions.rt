@@ -25,7 +25,8 @@ fn text(alloc: Global) -> Result<Codes, NoMemory> {
 fn listed(alloc: Global) -> Result<usize, NoMemory> {
     let tail = ReadExpr::Characters(HERE, text(alloc)?);
     let read = list_before(alloc, HERE, List::new(alloc), tail)?;
-    match closed(alloc, read)?.form {
+    let made = closed(alloc, read)?;
+    match &made.form {
         ExprForm::Literal(Term::List(items, _)) => Ok(items.len()),
         _ => Ok(0),
     }
@@ -35,7 +36,8 @@ fn listed(alloc: Global) -> Result<usize, NoMemory> {
 fn listed_pattern(alloc: Global) -> Result<usize, NoMemory> {
     let tail = ReadPattern::Characters(HERE, text(alloc)?);
     let read = list_before_pattern(alloc, HERE, List::new(alloc), tail)?;
-    match closed_pattern(alloc, read)?.form {
+    let made = closed_pattern(alloc, read)?;
+    match &made.form {
         PatternForm::Literal(Term::List(items, _)) => Ok(items.len()),
         _ => Ok(0),
     }
@@ -43,17 +45,17 @@ fn listed_pattern(alloc: Global) -> Result<usize, NoMemory> {
 
 fn is_tuple(alloc: Global) -> Result<bool, NoMemory> {
     let made = tuple_of(alloc, HERE, List::new(alloc))?;
-    Ok(matches!(made.form, ExprForm::Literal(Term::Tuple(_))))
+    Ok(matches!(&made.form, ExprForm::Literal(Term::Tuple(_))))
 }
 
 fn is_tuple_pattern(alloc: Global) -> Result<bool, NoMemory> {
     let made = tuple_of_patterns(alloc, HERE, List::new(alloc))?;
-    Ok(matches!(made.form, PatternForm::Literal(Term::Tuple(_))))
+    Ok(matches!(&made.form, PatternForm::Literal(Term::Tuple(_))))
 }
 
 fn is_map(alloc: Global) -> Result<bool, NoMemory> {
     let made = map_of_pairs(alloc, HERE, List::new(alloc))?;
-    Ok(matches!(made.form, ExprForm::Literal(Term::Map(_))))
+    Ok(matches!(&made.form, ExprForm::Literal(Term::Map(_))))
 }
 
 // 8 bits
@@ -72,7 +74,8 @@ fn binary_bits(alloc: Global) -> Result<u64, NoMemory> {
     let first = segment_of(alloc, HERE, ReadExpr::Integer(HERE, 1), octet(alloc)?)?;
     let second = segment_of(alloc, HERE, ReadExpr::Integer(HERE, 1), octet(alloc)?)?;
     let bits = with_bits(first.bits, second.bits)?;
-    match binary_of(alloc, HERE, List::new(alloc), bits)?.form {
+    let made = binary_of(alloc, HERE, List::new(alloc), bits)?;
+    match &made.form {
         ExprForm::Literal(Term::Bits(bits)) => Ok(bits.length),
         _ => Ok(0),
     }
