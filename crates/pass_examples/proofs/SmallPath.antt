@@ -16,7 +16,6 @@ use Rattle.step_machine.specs.Bodies.{Here, here_of, calling}
 use Rattle.kernel_form.specs.Kernel as K
 use Rattle.kernel_meaning.specs.Environment.{Setting, with_values, no_values}
 use Rattle.kernel_meaning.specs.KernelRun.{meaning, fun_does}
-use Rattle.kernel_meaning.specs.Forms as Kernel
 use Rattle.kernel_meaning.specs.Forms.{kernel_does}
 use Rattle.kernel_meaning.proofs.Agreeing.{bind_agrees, give_agrees, noted_same}
 use Rattle.kernel_meaning.proofs.Congruences.{call_terms_agrees}
@@ -30,11 +29,11 @@ use Rattle.ssa_form.specs.Spots as Spot
 use Rattle.ssa_form.specs.Spots.{nothing}
 use Rattle.ssa_form.specs.PlacedRun.{in_registers, no_registers, placed_run}
 use Rattle.ssa_form.specs.FramedRun.{in_stack, framed_run}
-use Rattle.ssa_form.specs.PassView.{result_of, around_in, ssa_does, placed_does, framed_does, ssa_form, placed_form}
+use Rattle.ssa_form.specs.PassView.{result_of, around_in, ssa_does, placed_does, framed_does}
 use Rattle.pass_contract.specs.InModule.{InModule}
 use Rattle.pass_contract.specs.SameRun.{Compared, SameState, SameResult, EntersAgree}
-use Rattle.pass_contract.specs.PassContract.{Run, undef, ComesTo, Agrees, Refines, Form, deepest, most_made, KeepsShape}
-use Rattle.pass_examples.specs.SmallPath.{Small, gives_term, gives_param, goes_to, takes_length, calls_out, kernel_body, kernel_fun, ssa_body, spots, placed_body, framed_body, Fits, SmallPathsKeep}
+use Rattle.pass_contract.specs.PassContract.{Run, undef, ComesTo, Agrees, Refines, Form, deepest, most_made, most_named, KeepsShape, AddsNoTest}
+use Rattle.pass_examples.specs.SmallPath.{Small, gives_term, gives_param, goes_to, takes_length, calls_out, kernel_body, kernel_fun, ssa_body, spots, placed_body, framed_body, Fits, in_kernel_form, in_ssa, in_spots, TestsNoMore, SmallPathsKeep}
 
 -- the end that an answer gives
 abbrev pub end_of : Answer → Outcome Term
@@ -102,7 +101,7 @@ module _ (w : Compared) (name : Name) (own : Term) (f g : ℕ → Values → M T
   given_same q (v ∷ []) s t r = result_same q v s t r
   given_same q (v ∷ u ∷ vs) s t r = record { state = r; end = refl }
 
-alike_agree : (w : Compared) (old new : Run) (q : Small) → Does old q → Does new q → Agrees w old new
+pub alike_agree : (w : Compared) (old new : Run) (q : Small) → Does old q → Does new q → Agrees w old new
 alike_agree w old new q x y name own f g lf lg h vs s t r z e = record {
   result = given q (here_of name own g) vs t;
   gives = y.does (here_of name own g) vs t;
@@ -160,11 +159,15 @@ kernel_is m k n q = record {
 
 -- Bodies: what comes with one term in a turn, and nothing in none.
 
-pub does_by : (body : Run) (q : Small)
-    → ((here : Here) (v : Term) (s : State) (k : ℕ) → body here (v ∷ []) s (suc k) ≡ Some (result q here v s))
-    → ((here : Here) (v : Term) (s : State) (r : State × Outcome Term) → body here (v ∷ []) s zero ≡ Some r → ⊥)
+-- with one term
+pub record DoesOne (body : Run) (q : Small) : Type 0 where
+  pub does : (here : Here) (v : Term) (s : State) → ComesTo body here (v ∷ []) s (result q here v s)
+  pub alone : (here : Here) (v : Term) (s : State) (r : State × Outcome Term) (k : ℕ)
+      → body here (v ∷ []) s k ≡ Some r → r ≡ result q here v s
+
+pub does_one : (body : Run) (q : Small) → DoesOne body q
     → Does (λ here vs s k. if eqb (length vs) 1 then body here vs s k else Some (s, undef)) q
-does_by body q h z = record {
+does_one body q h = record {
   does = does_it;
   alone = λ here vs s r e. alone_so here vs s r e.within e.gives;
 }
@@ -181,7 +184,9 @@ does_by body q h z = record {
         → ComesTo (λ here vs s k. if eqb (length vs) 1 then body here vs s k else Some (s, undef)) here vs s
         (given q here vs s)
     does_it here [] s = record { within = 1; gives = refl }
-    does_it here (v ∷ []) s = record { within = 1; gives = h here v s 0 }
+    does_it here (v ∷ []) s =
+        let c : ComesTo body here (v ∷ []) s (result q here v s) = h.does here v s in
+        record { within = c.within; gives = c.gives }
     does_it here (v ∷ u ∷ vs) s = record {
       within = 1;
       gives = others here (v ∷ u ∷ vs) s 1 (eqb (length (v ∷ u ∷ vs)) 1) (more_than_one (length vs));
@@ -190,10 +195,22 @@ does_by body q h z = record {
     alone_so : (here : Here) (vs : Values) (s : State) (r : State × Outcome Term) (k : ℕ)
         → (if eqb (length vs) 1 then body here vs s k else Some (s, undef)) ≡ Some r → r ≡ given q here vs s
     alone_so here [] s r k e = sym (some_is _ _ e)
-    alone_so here (v ∷ []) s r zero e = absurd (z here v s r e)
-    alone_so here (v ∷ []) s r (suc k) e = some_is _ _ (sym e ∙ h here v s k)
+    alone_so here (v ∷ []) s r k e = h.alone here v s r k e
     alone_so here (v ∷ u ∷ vs) s r k e = some_is _ _
         (sym e ∙ others here (v ∷ u ∷ vs) s k (eqb (length (v ∷ u ∷ vs)) 1) (more_than_one (length vs)))
+
+-- in one turn
+pub does_by : (body : Run) (q : Small)
+    → ((here : Here) (v : Term) (s : State) (k : ℕ) → body here (v ∷ []) s (suc k) ≡ Some (result q here v s))
+    → ((here : Here) (v : Term) (s : State) (r : State × Outcome Term) → body here (v ∷ []) s zero ≡ Some r → ⊥)
+    → Does (λ here vs s k. if eqb (length vs) 1 then body here vs s k else Some (s, undef)) q
+does_by body q h z =
+    does_one body q (record { does = λ here v s. record { within = 1; gives = h here v s 0 }; alone = alone_so })
+  where
+    alone_so : (here : Here) (v : Term) (s : State) (r : State × Outcome Term) (k : ℕ)
+        → body here (v ∷ []) s k ≡ Some r → r ≡ result q here v s
+    alone_so here v s r zero e = absurd (z here v s r e)
+    alone_so here v s r (suc k) e = some_is _ _ (sym e ∙ h here v s k)
 
 -- a call that ends the body
 pub ends_over : {X : Type 0} (o : Storage X) (around : Around) (here : Here) (go : Go o around here) (n : ℕ) (l : Last)
@@ -314,7 +331,7 @@ added_one v (suc zero, l, e) = let p : 1 ≡ v = e in inr (omega (arith, p))
 added_one v (suc (suc k), l, e) = absurd (omega (arith, l))
 
 abbrev Built : FunKey → ℕ → Small → Type 0
-Built k n q = KeepsShape (Kernel.form_of (kernel_fun k n q)) (ssa_form 2 (ssa_body n q))
+Built k n q = KeepsShape (in_kernel_form k n q) (in_ssa n q)
 
 built : (k : FunKey) (n : ℕ) (q : Small) → Built k n q
 built k n (gives_term t) = record {
@@ -328,6 +345,7 @@ built k n (gives_term t) = record {
   deepest = le-max_left (deepest (t ∷ [])) most_made;
   fitting = λ e. e;
   widest = omega arith;
+  highest = omega arith;
 }
 built k n gives_param = record {
   arity = refl;
@@ -340,6 +358,7 @@ built k n gives_param = record {
   deepest = omega arith;
   fitting = λ e. e;
   widest = omega arith;
+  highest = omega arith;
 }
 built k n (goes_to i) = record {
   arity = refl;
@@ -352,6 +371,7 @@ built k n (goes_to i) = record {
   deepest = omega arith;
   fitting = λ e. e;
   widest = omega arith;
+  highest = omega arith;
 }
 built k n takes_length = record {
   arity = refl;
@@ -364,6 +384,7 @@ built k n takes_length = record {
   deepest = omega arith;
   fitting = λ e. e;
   widest = omega arith;
+  highest = omega arith;
 }
 built k n (calls_out t u) = record {
   arity = refl;
@@ -376,6 +397,7 @@ built k n (calls_out t u) = record {
   deepest = le-max_left (deepest (t ∷ u ∷ [])) most_made;
   fitting = λ e. e;
   widest = omega arith;
+  highest = omega arith;
 }
 
 -- a form beside another one with the same parts
@@ -391,6 +413,27 @@ same_shape does' x = record {
   deepest = le-max_left (deepest x.literals) most_made;
   fitting = λ e. e;
   widest = omega arith;
+  highest = le-max_left x.highest most_named;
+}
+
+-- Tests.
+
+built_tests : (k : FunKey) (n : ℕ) (q : Small) → AddsNoTest (in_kernel_form k n q) (in_ssa n q)
+built_tests k n (gives_term t) = record { tests = omega arith; choices = omega arith }
+built_tests k n gives_param = record { tests = omega arith; choices = omega arith }
+built_tests k n (goes_to i) = record { tests = omega arith; choices = omega arith }
+built_tests k n takes_length = record { tests = omega arith; choices = omega arith }
+built_tests k n (calls_out t u) = record { tests = omega arith; choices = omega arith }
+
+-- a form beside another one with the same parts
+same_tests : (does' : InModule → Run) (x : Form) → AddsNoTest x (record x { does = does' })
+same_tests does' x = record { tests = omega arith; choices = omega arith }
+
+tests_no_more : (k : FunKey) (n : ℕ) (q : Small) → TestsNoMore k n q
+tests_no_more k n q = record {
+  built = built_tests k n q;
+  placed = same_tests _ (in_ssa n q);
+  framed = same_tests _ (in_spots n q);
 }
 
 pub small_paths_keep : SmallPathsKeep
@@ -401,10 +444,11 @@ small_paths_keep w m k n q h = record {
   };
   placed = record {
     refines = alike_refine _ _ q (ssa_is m n q h) (placed_is m n q h);
-    shape = same_shape _ (ssa_form 2 (ssa_body n q));
+    shape = same_shape _ (in_ssa n q);
   };
   framed = record {
     refines = alike_refine _ _ q (placed_is m n q h) (framed_is m n q h);
-    shape = same_shape _ (placed_form 2 (placed_body n q));
+    shape = same_shape _ (in_spots n q);
   };
+  tests = tests_no_more k n q;
 }

@@ -9,7 +9,7 @@ use Rattle.kernel_form.specs.Kernel as K
 use Rattle.kernel_meaning.specs.Forms as Kernel
 use Rattle.pass_contract.specs.SameRun.{Compared}
 use Rattle.pass_contract.specs.InModule.{InModule}
-use Rattle.pass_contract.specs.PassContract.{Keeps, KeepsResults}
+use Rattle.pass_contract.specs.PassContract.{Form, AddsNoTest, Keeps, KeepsResults}
 use Rattle.ssa_form.specs.Ssa as S
 use Rattle.ssa_form.specs.Ssa.{Block, Body, block, set, ret}
 use Rattle.ssa_form.specs.Spots.{Spots, x_reg, y_slot}
@@ -74,10 +74,33 @@ Fits m (goes_to n) = takes (slice_get m.widths n) 1 ≡ true
 Fits m _ = Unit {0}
 
 -- the forms, each seen by its contract
+abbrev pub in_kernel_form : FunKey → ℕ → Small → Form
+in_kernel_form k n q = Kernel.form_of (kernel_fun k n q)
+
+-- in SSA form
+abbrev pub in_ssa : ℕ → Small → Form
+in_ssa n q = ssa_form 2 (ssa_body n q)
+
+-- with spots
+abbrev pub in_spots : ℕ → Small → Form
+in_spots n q = placed_form 2 (placed_body n q)
+
+-- with a frame
+abbrev pub in_frame : ℕ → Small → Form
+in_frame n q = framed_form 2 (framed_body n q)
+
+-- no step of the way adds a test
+pub record TestsNoMore (k : FunKey) (n : ℕ) (q : Small) : Type 0 where
+  pub built : AddsNoTest (in_kernel_form k n q) (in_ssa n q)
+  pub placed : AddsNoTest (in_ssa n q) (in_spots n q)
+  pub framed : AddsNoTest (in_spots n q) (in_frame n q)
+
+-- what each step keeps
 pub record SmallPath (w : Compared) (m : InModule) (k : FunKey) (n : ℕ) (q : Small) : Type 0 where
-  pub built : Keeps w m (Kernel.form_of (kernel_fun k n q)) (ssa_form 2 (ssa_body n q))
-  pub placed : KeepsResults m (ssa_form 2 (ssa_body n q)) (placed_form 2 (placed_body n q))
-  pub framed : KeepsResults m (placed_form 2 (placed_body n q)) (framed_form 2 (framed_body n q))
+  pub built : Keeps w m (in_kernel_form k n q) (in_ssa n q)
+  pub placed : KeepsResults m (in_ssa n q) (in_spots n q)
+  pub framed : KeepsResults m (in_spots n q) (in_frame n q)
+  pub tests : TestsNoMore k n q
 
 -- whatever is compared, and however the module is set
 abbrev pub SmallPathsKeep : Type 0
