@@ -6,22 +6,32 @@
 //! does not name. The public functions have no code: the contract of each is a law.
 #![tactic(auto)]
 
+ghost use Rattle.std.specs.Prelude.{◌≡◌, suc};
+ghost use Rattle.beam_table.specs.OperandBounds.{count_limit};
+ghost use Rattle.pass_contract.specs.PassContract.{most_named};
 ghost use Rattle.pass_examples.specs.SmallPath.{SmallPathsKeep};
 ghost use Rattle.pass_examples.specs.WholePath.{WholePath};
 ghost use Rattle.pass_examples.specs.Refused.{WrongPassesRefused};
 
-/// Functions of one parameter, from kernel form to a body with frames: each step keeps what passes keep.
+/// Functions of one parameter, from kernel form to a body with frames: each step keeps what passes keep, and tests and
+/// chooses no more.
 pub fn small_paths_keep()
     ensures { SmallPathsKeep }
 {}
 
-/// A small module from Core Erlang to its assembly, shown function by function along the forms between them.
+/// A small module from Core Erlang to its assembly, shown function by function along the forms between them; its costs
+/// too.
 pub fn whole_path_behaves()
     ensures { WholePath }
 {}
 
-/// Another value, no end, another parameter, a receive of its own and one sub-binary more are refused; what is not
-/// compared is not.
+/// Another value, no end, another parameter, a receive of its own, a number that no instruction holds, one test, one
+/// choice and one sub-binary more are refused; what is not compared is not.
 pub fn wrong_passes_refused()
     ensures { WrongPassesRefused }
+{}
+
+/// A pass may name what the machine's instructions hold.
+pub fn instructions_hold_what_passes_name()
+    ensures { suc most_named ≡ count_limit }
 {}
