@@ -23,7 +23,7 @@ use Rattle.pass_contract.specs.SameRun.{Compared, SameState, EntersAgree, done}
 use Rattle.pass_contract.specs.PassContract.{Run, ComesTo, GivesSame, Agrees, most_named, KeepsShape}
 use Rattle.pass_contract.proofs.Modules.{same_itself, lawful_itself}
 use Rattle.pass_examples.specs.SmallPath.{gives_term, gives_param, kernel_fun, ssa_body, in_kernel_form}
-use Rattle.pass_examples.specs.Refused.{endless, two_params, looks_at, names_much, asks_more, chooses_more, OneMore, cutting, goes_by_marker, bare, Made, WrongPassesRefused}
+use Rattle.pass_examples.specs.Refused.{endless, two_params, looks_at, names_much, asks_more, chooses_more, OneMore, cutting, giving_back, goes_by_marker, bare, Made, WrongPassesRefused}
 use Rattle.pass_examples.proofs.SmallPath.{Does, DoesOne, does_one, alike_agree, some_is, none_there, no_turn, kernel_is, ssa_is}
 
 abbrev empty : State
@@ -282,6 +282,9 @@ marks w e h = other_message (from_there w _ _ h (reference ∷ []) (two (mark �
         let m : 1 ≡ 0 = sym (ap (λ r. first_serial r.0.mailbox) z) ∙ ap first_serial g.same.state.mailbox in
         omega (arith, m)
 
+entered : IsLawful giving_back → ⊥
+entered h = let e : 1 ≤ 0 = (h 0 [] empty).left in omega (arith, e)
+
 pub wrong_passes_refused : WrongPassesRefused
 wrong_passes_refused w m k n = record {
   value = value w m k n;
@@ -294,5 +297,6 @@ wrong_passes_refused w m k n = record {
   more = more w;
   not_compared = not_compared w;
   fewer = fewer w;
+  entered = entered;
   marks = marks w;
 }

@@ -2,8 +2,11 @@
 use Rattle.std.specs.Prelude.{◌≡◌, ℕ, suc, List, [], ◌∷◌, false, Some, None, IsTrue, codes}
 use Rattle.erl_base.specs.declared.ids.FunKey.{FunKey}
 use Rattle.erl_term.specs.Term as T
-use Rattle.world_model.specs.Run.{gives, cut, noting}
+use Rattle.erl_term.specs.Term.{Term}
+use Rattle.erl_term.specs.Terms.{Values}
+use Rattle.world_model.specs.Run.{gives, cut, noting, M}
 use Rattle.pass_contract.specs.SameRun.{Compared}
+use Rattle.pass_contract.specs.Lawful.{IsLawful}
 use Rattle.pass_contract.specs.InModule.{InModule}
 use Rattle.pass_contract.specs.PassContract.{Run, at_once, Agrees, most_named, AddsNoTest, Keeps}
 use Rattle.ssa_form.specs.Ssa as S
@@ -64,6 +67,10 @@ goes_by_marker = record {
   contexts = [];
 }
 
+-- functions that give an entry back
+abbrev pub giving_back : ℕ → Values → M Term
+giving_back n vs s = (record s { left = suc s.left }, gives T.nil)
+
 -- a module that sets nothing beside the number of its parameters
 abbrev pub bare : InModule
 bare = record { widths = 1 ∷ []; marks = []; plan = []; choices = []; uncounted = [] }
@@ -91,6 +98,8 @@ pub record Refused (w : Compared) (m : InModule) (k : FunKey) (n : ℕ) : Type 0
   pub more : IsTrue w.cuts → Agrees w (cutting 0) (cutting 1) → ⊥
   pub not_compared : w.cuts ≡ false → Agrees w (cutting 0) (cutting 1)
   pub fewer : Agrees w (cutting 1) (cutting 0)
+  -- nothing may be entered that gives entries back
+  pub entered : IsLawful giving_back → ⊥
   -- where marks are not compared, a body that goes by a marker does not agree even with itself
   pub marks : w.marks ≡ false
       → Agrees w (ssa_does goes_by_marker (around_in bare)) (ssa_does goes_by_marker (around_in bare)) → ⊥
