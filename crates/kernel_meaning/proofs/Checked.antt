@@ -122,7 +122,7 @@ updating_guard_is_plain = refl
 updating_is_scoped : scoped updating (0 ∷ []) ≡ true
 updating_is_scoped = refl
 
--- what it gives is one of two values that it may be asked for; the update itself is no test
+-- each of the guard's three expressions may be asked what it gives; the update itself is no test
 updating_tests : tested updating ≡ 3
 updating_tests = refl
 
