@@ -7,7 +7,7 @@ use Rattle.kernel_form.specs.Kernel.{Value, var, lit, Expr, values, simple, let_
 use Rattle.kernel_meaning.specs.Walks.{receives, let_calls, binders}
 use Rattle.kernel_meaning.specs.Windows.{window, window_fits}
 use Rattle.kernel_meaning.specs.KernelPredicate.{gives, scoped, calls_fit, everywhere, switch_fits, is_by_steps, has_silent_guard, has_plain_guard}
-use Rattle.kernel_meaning.specs.Tested.{named, tested, chosen}
+use Rattle.kernel_meaning.specs.Tested.{sizes_named, tests_made, choices_made}
 
 abbrev int : ℕ → Term
 int n = T.int (pos n)
@@ -123,7 +123,7 @@ updating_is_scoped : scoped updating (0 ∷ []) ≡ true
 updating_is_scoped = refl
 
 -- each of the guard's three expressions may be asked what it gives; the update itself is no test
-updating_tests : tested updating ≡ 3
+updating_tests : tests_made updating ≡ 3
 updating_tests = refl
 
 -- a call in the body behind a guard is none in the guard
@@ -177,14 +177,14 @@ abbrev literals_chosen : Expr
 literals_chosen = match_in (switch 0 (and_case (case (K.is (T.atom (codes "a"))) [] (gives_one (lit (int 1))))
     (and_case (case (K.is (int 2)) [] (gives_one (var 0))) no_case)) (gives_one (lit T.nil)))
 
-literals_are_one_choice : chosen literals_chosen ≡ 1
+literals_are_one_choice : choices_made literals_chosen ≡ 1
 literals_are_one_choice = refl
 
-literals_are_no_test : tested literals_chosen ≡ 0
+literals_are_no_test : tests_made literals_chosen ≡ 0
 literals_are_no_test = refl
 
-tuple_is_two_tests : tested (receives_tuple 3) ≡ 2
+tuple_is_two_tests : tests_made (receives_tuple 3) ≡ 2
 tuple_is_two_tests = refl
 
-tuple_names_its_size : named (receives_tuple 3) ≡ 3 ∷ []
+tuple_names_its_size : sizes_named (receives_tuple 3) ≡ 3 ∷ []
 tuple_names_its_size = refl

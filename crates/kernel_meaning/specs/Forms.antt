@@ -12,7 +12,7 @@ use Rattle.kernel_meaning.specs.KernelRun.{fun_does}
 use Rattle.kernel_meaning.specs.Walks.{binders, receives, let_calls}
 use Rattle.kernel_meaning.specs.Wanted.{wanted}
 use Rattle.kernel_meaning.specs.Literals.{literals, argument_counts}
-use Rattle.kernel_meaning.specs.Tested.{named, tested, chosen}
+use Rattle.kernel_meaning.specs.Tested.{sizes_named, tests_made, choices_made}
 
 -- what kernel form minds of what is set for a module
 abbrev pub setting_in : InModule → Setting
@@ -34,9 +34,9 @@ form_of f = record {
   next = f.next;
   literals = literals f.body;
   counts = argument_counts f.body;
-  highest = most (named f.body);
-  tests = tested f.body;
-  choices = chosen f.body;
+  highest = most (sizes_named f.body);
+  tests = tests_made f.body;
+  choices = choices_made f.body;
 }
 
 -- functions by their sites

@@ -13,8 +13,8 @@ sizes_of (case (is_tuple n) xs t) = n ∷ []
 sizes_of _ = []
 
 -- of an expression with all its nodes
-abbrev pub named : Expr → List ℕ
-named e = gathered nothing nothing sizes_of nothing e
+abbrev pub sizes_named : Expr → List ℕ
+sizes_named e = gathered nothing nothing sizes_of nothing e
 
 -- Choices among literals.
 
@@ -40,8 +40,8 @@ tree_choices (switch x cs t) = if is_choice cs then 1 else 2
 tree_choices _ = 0
 
 -- of an expression with all its nodes
-abbrev pub chosen : Expr → ℕ
-chosen e = sum (gathered nothing (λ t. tree_choices t ∷ []) nothing nothing e)
+abbrev pub choices_made : Expr → ℕ
+choices_made e = sum (gathered nothing (λ t. tree_choices t ∷ []) nothing nothing e)
 
 -- Tests.
 
@@ -90,5 +90,5 @@ expr_tests (simple (bif b vs)) = 1
 expr_tests _ = 0
 
 -- of an expression with all its nodes
-abbrev pub tested : Expr → ℕ
-tested e = sum (gathered (λ x. expr_tests x ∷ []) (λ t. tree_tests t ∷ []) nothing (λ r. row_tests r ∷ []) e)
+abbrev pub tests_made : Expr → ℕ
+tests_made e = sum (gathered (λ x. expr_tests x ∷ []) (λ t. tree_tests t ∷ []) nothing (λ r. row_tests r ∷ []) e)

@@ -151,10 +151,15 @@ pub record AddsNoTest (old new : Form) : Type 0 where
   pub tests : new.tests ≤ old.tests
   pub choices : new.choices ≤ old.choices
 
--- a pass that agrees, in this setting of its module and with this compared
-pub record Keeps (w : Compared) (m : InModule) (old new : Form) : Type 0 where
-  pub agrees : Agrees w (old.does m) (new.does m)
+-- a pass that agrees, with this compared, from one setting of its module to another: what is handed on as a context is
+-- no sub-binary before it is, and nothing is left out of the count behind it
+pub record KeepsAcross (w : Compared) (m n : InModule) (old new : Form) : Type 0 where
+  pub agrees : Agrees w (old.does m) (new.does n)
   pub shape : KeepsShape old new
+
+-- in one setting
+abbrev pub Keeps : Compared → InModule → Form → Form → Type 0
+Keeps w m old new = KeepsAcross w m m old new
 
 -- a pass that refines, in this setting of its module
 pub record KeepsResults (m : InModule) (old new : Form) : Type 0 where

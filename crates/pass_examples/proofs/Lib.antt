@@ -1,3 +1,4 @@
 mod SmallPath
 mod WholePath
 mod Refused
+mod MarkRoom

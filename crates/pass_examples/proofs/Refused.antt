@@ -22,7 +22,7 @@ use Rattle.pass_contract.specs.Lawful.{IsLawful}
 use Rattle.pass_contract.specs.SameRun.{Compared, SameState, EntersAgree, done}
 use Rattle.pass_contract.specs.PassContract.{Run, ComesTo, GivesSame, Agrees, most_named, KeepsShape}
 use Rattle.pass_contract.proofs.Modules.{same_itself, lawful_itself}
-use Rattle.pass_examples.specs.SmallPath.{gives_term, gives_param, kernel_fun, ssa_body, in_kernel_form}
+use Rattle.pass_examples.specs.SmallPath.{gives_term, gives_param, kernel_fun, ssa_body, in_kernel_form, ahead}
 use Rattle.pass_examples.specs.Refused.{endless, two_params, looks_at, names_much, asks_more, chooses_more, OneMore, cutting, giving_back, goes_by_marker, bare, Made, WrongPassesRefused}
 use Rattle.pass_examples.proofs.SmallPath.{Does, DoesOne, does_one, alike_agree, some_is, none_there, no_turn, kernel_is, ssa_is}
 
@@ -120,7 +120,7 @@ chooses_is m n = does_one _ gives_param
 number : (w : Compared) (m : InModule) (k : FunKey) (n : ℕ) → Made w m k n (names_much n) → ⊥
 number w m k n h = let e : suc most_named ≤ most_named = h.shape.highest in omega (arith, e)
 
-shape_of_asks : (k : FunKey) (n : ℕ) → KeepsShape (in_kernel_form k n gives_param) (ssa_form 2 (asks_more n))
+shape_of_asks : (k : FunKey) (n : ℕ) → KeepsShape (in_kernel_form k n gives_param) (ssa_form ahead (asks_more n))
 unfolding depths maps_rise
 shape_of_asks k n = record {
   arity = refl;
@@ -136,7 +136,7 @@ shape_of_asks k n = record {
   highest = omega arith;
 }
 
-shape_of_chooses : (k : FunKey) (n : ℕ) → KeepsShape (in_kernel_form k n gives_param) (ssa_form 2 (chooses_more n))
+shape_of_chooses : (k : FunKey) (n : ℕ) → KeepsShape (in_kernel_form k n gives_param) (ssa_form ahead (chooses_more n))
 unfolding depths maps_rise
 shape_of_chooses k n = record {
   arity = refl;

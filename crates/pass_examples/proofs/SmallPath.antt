@@ -1,14 +1,17 @@
 -- What small functions do in each form, and that each step keeps it.
-use Rattle.std.proofs.Common.{◌≡◌, ◌≤◌, ◌⊎◌, inl, inr, ℕ, zero, suc, [], ◌∷◌, length, Bool, true, false, eqb, Contains, Some, None, if◌then◌else◌, refl, sym, ap, ◌∙◌, subst, arith}
+use Rattle.std.proofs.Common.{◌≡◌, ◌≤◌, ◌⊎◌, inl, inr, ℕ, zero, suc, [], ◌∷◌, length, Bool, true, false, eqb, max, Contains, IsTrue, Some, None, if◌then◌else◌, refl, sym, ap, ◌∙◌, subst, arith}
 use Rattle.std.proofs.Math.Nat.{le-max_left}
 use Rattle.erl_base.specs.Names.{Name}
 use Rattle.erl_base.specs.declared.ids.FunKey.{FunKey}
+use Rattle.erl_term.specs.Term as T
 use Rattle.erl_term.specs.Term.{Term}
 use Rattle.erl_term.specs.Terms.{Values, only}
+use Rattle.erl_term.specs.Depth.{depths}
+use Rattle.erl_term.specs.WellFormed.{maps_rise}
 use Rattle.bif_table.specs.Builtins as B
 use Rattle.bif_table.specs.BuiltinAnswer.{Answer, value, raised, answer}
 use Rattle.world_model.specs.Requests.{answers}
-use Rattle.world_model.specs.RemoteCalls.{call_terms}
+use Rattle.world_model.specs.RemoteCalls.{call_erlang, call_terms}
 use Rattle.world_model.specs.Run.{Entry, State, Outcome, gives, raises, waits, spent, M, ◌>>=◌, going_on, give, entered}
 use Rattle.world_model.specs.Meaning.{one, single}
 use Rattle.world_model.specs.Entries.{entry_left}
@@ -32,8 +35,8 @@ use Rattle.ssa_form.specs.FramedRun.{in_stack, framed_run}
 use Rattle.ssa_form.specs.PassView.{result_of, around_in, ssa_does, placed_does, framed_does}
 use Rattle.pass_contract.specs.InModule.{InModule}
 use Rattle.pass_contract.specs.SameRun.{Compared, SameState, SameResult, EntersAgree}
-use Rattle.pass_contract.specs.PassContract.{Run, undef, ComesTo, Agrees, Refines, Form, deepest, most_made, most_named, KeepsShape, AddsNoTest}
-use Rattle.pass_examples.specs.SmallPath.{Small, gives_term, gives_param, goes_to, takes_length, calls_out, kernel_body, kernel_fun, ssa_body, spots, placed_body, framed_body, Fits, in_kernel_form, in_ssa, in_spots, TestsNoMore, SmallPathsKeep}
+use Rattle.pass_contract.specs.PassContract.{Run, undef, ComesTo, Agrees, Refines, Form, deepest, are_fitting, most_made, most_named, KeepsShape, AddsNoTest}
+use Rattle.pass_examples.specs.SmallPath.{Small, gives_term, gives_param, goes_to, takes_length, calls_out, fails, erlang, error, kernel_body, kernel_fun, ssa_body, spots, placed_body, framed_body, Fits, in_kernel_form, in_ssa, in_spots, TestsNoMore, SmallPathsKeep}
 
 -- the end that an answer gives
 abbrev pub end_of : Answer → Outcome Term
@@ -47,6 +50,7 @@ result gives_param here v s = (s, gives v)
 result (goes_to n) here v s = one (calling here n true (v ∷ []) >>= single) give s
 result takes_length here v s = (s, end_of (answer B.Length here.own (v ∷ [])))
 result (calls_out t u) here v s = one (call_terms here.own t u (v ∷ [])) give s
+result fails here v s = (s, raises T.error v)
 
 -- with any terms
 abbrev pub given : Small → Here → Values → State → State × Outcome Term
@@ -92,6 +96,7 @@ module _ (w : Compared) (name : Name) (own : Term) (f g : ℕ → Values → M T
   result_same (goes_to n) v s t r = bind_agrees w _ _ _ _
       (bind_agrees w _ _ _ _ (λ a b i. calling_same n (v ∷ []) a b i) (λ a. give_agrees w (a ∷ [])))
       (λ vs. give_agrees w (only vs)) s t r
+  result_same fails v s t r = record { state = r; end = refl }
   result_same (calls_out t' u) v s t r = bind_agrees w _ _ _ _
       (call_terms_agrees w name own f g h t' u (v ∷ [])) (λ vs. give_agrees w (only vs)) s t r
 
@@ -131,6 +136,7 @@ kernel_result w k n (gives_term t) here v s = refl
 kernel_result w k n gives_param here v s = refl
 kernel_result w k n (goes_to m) here v s = refl
 kernel_result w k n (calls_out t u) here v s = refl
+kernel_result w k n fails here v s = refl
 kernel_result w k n takes_length here v s = answer_then (answer B.Length here.own (v ∷ []))
     (λ vs. meaning w here (K.values (K.var 1 ∷ []))
     (with_values (with_values no_values (0 ∷ []) (v ∷ [])) (1 ∷ []) vs) true) s (λ t u. refl)
@@ -212,6 +218,11 @@ does_by body q h z =
     alone_so here v s r zero e = absurd (z here v s r e)
     alone_so here v s r (suc k) e = some_is _ _ (sym e ∙ h here v s k)
 
+-- a call that raises an error
+pub raised_error : (own v : Term) (s : State) → one (call_terms own erlang error (v ∷ [])) give s ≡ (s, raises T.error v)
+unfolding call_terms call_erlang answer
+raised_error own v s = refl
+
 -- a call that ends the body
 pub ends_over : {X : Type 0} (o : Storage X) (around : Around) (here : Here) (go : Go o around here) (n : ℕ) (l : Last)
     (k : Frame X → State → After X) (x : State × Outcome Values)
@@ -245,6 +256,9 @@ ssa_result m n (goes_to i) h here v s k = rw h
 ssa_result m n (calls_out t u) h here v s k =
     ends_over in_vars (around_in m) here (blocks in_vars (around_in m) here (ssa_body n (calls_out t u)) k) 0
     (ret (S.var 1)) _ (call_terms here.own t u (v ∷ []) s)
+ssa_result m n fails h here v s k = ends_over in_vars (around_in m) here
+    (blocks in_vars (around_in m) here (ssa_body n fails) k) 0 (ret (S.var 1)) (chain_does in_vars (around_in m) here [] (ret (S.var 1)) [])
+    (call_terms here.own erlang error (v ∷ []) s) ∙ ap Some (raised_error here.own v s)
 ssa_result m n takes_length h here v s k = ssa_length (around_in m) n here v s k (answer B.Length here.own (v ∷ []))
 
 pub no_turn : (r : State × Outcome Term) → None ≡ Some r → ⊥
@@ -276,6 +290,9 @@ placed_result m n (goes_to i) h here v s k = rw h (ends_over (in_registers spots
 placed_result m n (calls_out t u) h here v s k = ends_over (in_registers spots) (around_in m) here
     (blocks (in_registers spots) (around_in m) here (ssa_body n (calls_out t u)) k) 0 (ret (S.var 1)) _
     (call_terms here.own t u (v ∷ []) s)
+placed_result m n fails h here v s k = ends_over (in_registers spots) (around_in m) here
+    (blocks (in_registers spots) (around_in m) here (ssa_body n fails) k) 0 (ret (S.var 1)) (chain_does (in_registers spots) (around_in m) here [] (ret (S.var 1)) [])
+    (call_terms here.own erlang error (v ∷ []) s) ∙ ap Some (raised_error here.own v s)
 placed_result m n takes_length h here v s k =
     placed_length (around_in m) n here v s k (answer B.Length here.own (v ∷ []))
 
@@ -306,6 +323,9 @@ framed_result m n (goes_to i) h here v s k = rw h (ends_over (in_stack spots ((0
 framed_result m n (calls_out t u) h here v s k = ends_over (in_stack spots ((0, 1) ∷ [])) (around_in m) here
     (blocks (in_stack spots ((0, 1) ∷ [])) (around_in m) here (ssa_body n (calls_out t u)) k) 0 (ret (S.var 1)) _
     (call_terms here.own t u (v ∷ []) s)
+framed_result m n fails h here v s k = ends_over (in_stack spots ((0, 1) ∷ [])) (around_in m) here
+    (blocks (in_stack spots ((0, 1) ∷ [])) (around_in m) here (ssa_body n fails) k) 0 (ret (S.var 1)) (chain_does (in_stack spots ((0, 1) ∷ [])) (around_in m) here [] (ret (S.var 1)) [])
+    (call_terms here.own erlang error (v ∷ []) s) ∙ ap Some (raised_error here.own v s)
 framed_result m n takes_length h here v s k =
     framed_length (around_in m) n here v s k (answer B.Length here.own (v ∷ []))
 
@@ -329,6 +349,14 @@ added_one : (v : ℕ) → Contains (0 ∷ 1 ∷ []) v → Contains (0 ∷ []) v 
 added_one v (zero, l, e) = inl (zero, omega arith, e)
 added_one v (suc zero, l, e) = let p : 1 ≡ v = e in inr (omega (arith, p))
 added_one v (suc (suc k), l, e) = absurd (omega (arith, l))
+
+error_depth : deepest (erlang ∷ error ∷ []) ≤ max (deepest []) most_made
+unfolding depths
+error_depth = omega arith
+
+error_fits : IsTrue (are_fitting (erlang ∷ error ∷ []))
+unfolding maps_rise
+error_fits = refl
 
 abbrev Built : FunKey → ℕ → Small → Type 0
 Built k n q = KeepsShape (in_kernel_form k n q) (in_ssa n q)
@@ -399,6 +427,22 @@ built k n (calls_out t u) = record {
   widest = omega arith;
   highest = omega arith;
 }
+built k n fails = shape
+  where
+    shape : Built k n fails
+    shape = record {
+      arity = refl;
+      receives = λ v c. c;
+      added = added_one;
+      next = omega arith;
+      calls = λ v c d. absurd (not_zero v (one_there 1 v c) (one_there 0 v d));
+      stays = λ v c d. absurd (none_there v c);
+      variables = omega arith;
+      deepest = error_depth;
+      fitting = λ e. error_fits;
+      widest = omega arith;
+      highest = omega arith;
+    }
 
 -- a form beside another one with the same parts
 same_shape : (does' : InModule → Run) (x : Form) → KeepsShape x (record x { does = does' })
@@ -424,6 +468,7 @@ built_tests k n gives_param = record { tests = omega arith; choices = omega arit
 built_tests k n (goes_to i) = record { tests = omega arith; choices = omega arith }
 built_tests k n takes_length = record { tests = omega arith; choices = omega arith }
 built_tests k n (calls_out t u) = record { tests = omega arith; choices = omega arith }
+built_tests k n fails = record { tests = omega arith; choices = omega arith }
 
 -- a form beside another one with the same parts
 same_tests : (does' : InModule → Run) (x : Form) → AddsNoTest x (record x { does = does' })

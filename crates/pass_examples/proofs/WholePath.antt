@@ -56,9 +56,9 @@ use Rattle.behaviour.specs.Realizes.{Matches, Comes, Realizes, RealizesAll, RunR
 use Rattle.behaviour.proofs.Calling.{ready, entry_ready, ready_matches, call_only_realizes}
 use Rattle.behaviour.proofs.Bridge.{marks-reverse}
 use Rattle.behaviour.proofs.Modules.{passes_give_module, passes_give_costs}
-use Rattle.pass_examples.specs.SmallPath.{Small, gives_term, gives_param, goes_to, takes_length, calls_out, kernel_fun, ssa_body, Fits}
+use Rattle.pass_examples.specs.SmallPath.{Small, gives_term, gives_param, goes_to, takes_length, calls_out, fails, erlang, error, kernel_fun, ssa_body, Fits}
 use Rattle.pass_examples.specs.WholePath.{here_in_text, key, x, core, bodies, set_so, register, in_register, without_frame, asm, WholePath}
-use Rattle.pass_examples.proofs.SmallPath.{end_of, result, given, given_same, answer_then, Does, does_by, ends_over, no_turn, kernel_is, ssa_is}
+use Rattle.pass_examples.proofs.SmallPath.{raised_error, end_of, result, given, given_same, answer_then, Does, does_by, ends_over, no_turn, kernel_is, ssa_is}
 
 -- With spots, and without a frame.
 
@@ -86,6 +86,9 @@ placed_result n (goes_to i) h here v s k = rw h (ends_over (in_registers registe
 placed_result n (calls_out t u) h here v s k = ends_over (in_registers register) (around_in set_so) here
     (blocks (in_registers register) (around_in set_so) here (ssa_body n (calls_out t u)) k) 0 (ret (S.var 1)) _
     (call_terms here.own t u (v ∷ []) s)
+placed_result n fails h here v s k = ends_over (in_registers register) (around_in set_so) here
+    (blocks (in_registers register) (around_in set_so) here (ssa_body n fails) k) 0 (ret (S.var 1)) (chain_does (in_registers register) (around_in set_so) here [] (ret (S.var 1)) [])
+    (call_terms here.own erlang error (v ∷ []) s) ∙ ap Some (raised_error here.own v s)
 placed_result n takes_length h here v s k =
     placed_length (around_in set_so) n here v s k (answer B.Length here.own (v ∷ []))
 
@@ -116,6 +119,9 @@ framed_result n (goes_to i) h here v s k = rw h (ends_over (in_stack register []
 framed_result n (calls_out t u) h here v s k = ends_over (in_stack register []) (around_in set_so) here
     (blocks (in_stack register []) (around_in set_so) here (ssa_body n (calls_out t u)) k) 0 (ret (S.var 1)) _
     (call_terms here.own t u (v ∷ []) s)
+framed_result n fails h here v s k = ends_over (in_stack register []) (around_in set_so) here
+    (blocks (in_stack register []) (around_in set_so) here (ssa_body n fails) k) 0 (ret (S.var 1)) (chain_does (in_stack register []) (around_in set_so) here [] (ret (S.var 1)) [])
+    (call_terms here.own erlang error (v ∷ []) s) ∙ ap Some (raised_error here.own v s)
 framed_result n takes_length h here v s k =
     framed_length (around_in set_so) n here v s k (answer B.Length here.own (v ∷ []))
 

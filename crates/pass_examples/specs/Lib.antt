@@ -1,3 +1,4 @@
 pub mod SmallPath
 pub mod WholePath
 pub mod Refused
+pub mod MarkRoom

@@ -12,7 +12,7 @@ use Rattle.pass_contract.specs.PassContract.{Run, at_once, Agrees, most_named, A
 use Rattle.ssa_form.specs.Ssa as S
 use Rattle.ssa_form.specs.Ssa.{Set, Last, Body, block, set, br, succeeded, switch, ret}
 use Rattle.ssa_form.specs.PassView.{around_in, ssa_does, ssa_form}
-use Rattle.pass_examples.specs.SmallPath.{gives_term, gives_param, ssa_body, in_kernel_form}
+use Rattle.pass_examples.specs.SmallPath.{gives_term, gives_param, ssa_body, in_kernel_form, ahead}
 
 -- a body of one block
 abbrev pub one_block : ℕ → List ℕ → List Set → Last → Body
@@ -77,12 +77,12 @@ bare = record { widths = 1 ∷ []; marks = []; plan = []; choices = []; uncounte
 
 -- a body that would be made of the function that gives its parameter
 abbrev pub Made : Compared → InModule → FunKey → ℕ → Body → Type 0
-Made w m k n b = Keeps w m (in_kernel_form k n gives_param) (ssa_form 2 b)
+Made w m k n b = Keeps w m (in_kernel_form k n gives_param) (ssa_form ahead b)
 
 -- it keeps all that the contract says, and tests or chooses more
 pub record OneMore (w : Compared) (m : InModule) (k : FunKey) (n : ℕ) (b : Body) : Type 0 where
   pub kept : Made w m k n b
-  pub adds : AddsNoTest (in_kernel_form k n gives_param) (ssa_form 2 b) → ⊥
+  pub adds : AddsNoTest (in_kernel_form k n gives_param) (ssa_form ahead b) → ⊥
 
 -- whatever is compared, and however the module is set
 pub record Refused (w : Compared) (m : InModule) (k : FunKey) (n : ℕ) : Type 0 where

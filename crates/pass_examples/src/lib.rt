@@ -11,6 +11,7 @@ ghost use Rattle.beam_table.specs.OperandBounds.{count_limit};
 ghost use Rattle.pass_contract.specs.PassContract.{most_named};
 ghost use Rattle.pass_examples.specs.SmallPath.{SmallPathsKeep};
 ghost use Rattle.pass_examples.specs.WholePath.{WholePath};
+ghost use Rattle.pass_examples.specs.MarkRoom.{CallsLeaveRoom};
 ghost use Rattle.pass_examples.specs.Refused.{WrongPassesRefused};
 
 /// Functions of one parameter, from kernel form to a body with frames: each step keeps what passes keep, and tests and
@@ -29,6 +30,12 @@ pub fn whole_path_behaves()
 /// choice and one sub-binary more are refused; what is not compared is not.
 pub fn wrong_passes_refused()
     ensures { WrongPassesRefused }
+{}
+
+/// A let-bound call leaves room for the variable of its marker.
+#[tactic(auto, using(crate::proofs::MarkRoom::calls_leave_room))]
+pub fn calls_leave_room_for_marks()
+    ensures { CallsLeaveRoom }
 {}
 
 /// A pass may name what the machine's instructions hold.

@@ -148,17 +148,22 @@ sum_lasts f [] = 0
 sum_lasts f (None ∷ os) = sum_lasts f os
 sum_lasts f (Some x ∷ os) = f x.last + sum_lasts f os
 
--- A body as passes see it, by what it does. A body binds all its variables itself, and keeps no number above them: the
--- next one is said beside it.
-abbrev pub form_of : (Around → Run) → ℕ → Body → Form
-form_of does next b = record {
+-- What is said beside a body, since it keeps neither: a number above all variables, and how many it may still get, as
+-- the mark of each call that may be marked.
+pub record Ahead : Type 0 where
+  pub next : ℕ
+  pub wanted : ℕ
+
+-- a body as passes see it, by what it does
+abbrev pub form_of : (Around → Run) → Ahead → Body → Form
+form_of does ahead b = record {
   does = λ m. does (around_in m);
   arity = length b.params;
   receives = gathers (λ x. receive_of x.op) b.blocks;
   calls = gathers (λ x. call_of x.op x.dst) b.blocks;
   variables = b.params ++ blocks_set b.blocks;
-  wanted = 0;
-  next = next;
+  wanted = ahead.wanted;
+  next = ahead.next;
   literals = blocks_lits b.blocks;
   counts = gathers (λ x. arguments_of x.op (length x.args)) b.blocks;
   highest = most (gathers (λ x. named_by x.op) b.blocks);
@@ -167,16 +172,16 @@ form_of does next b = record {
 }
 
 -- of a body
-abbrev pub ssa_form : ℕ → Body → Form
-ssa_form next b = form_of (ssa_does b) next b
+abbrev pub ssa_form : Ahead → Body → Form
+ssa_form ahead b = form_of (ssa_does b) ahead b
 
 -- of one with spots
-abbrev pub placed_form : ℕ → Placed → Form
-placed_form next p = form_of (placed_does p) next p.body
+abbrev pub placed_form : Ahead → Placed → Form
+placed_form ahead p = form_of (placed_does p) ahead p.body
 
 -- of one with frames
-abbrev pub framed_form : ℕ → Framed → Form
-framed_form next p = form_of (framed_does p) next p.body
+abbrev pub framed_form : Ahead → Framed → Form
+framed_form ahead p = form_of (framed_does p) ahead p.body
 
 -- the runs of each form have at most one result, which is lawful where what they enter is
 pub record BodiesAreProper : Type 0 where
