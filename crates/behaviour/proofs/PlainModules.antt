@@ -9,12 +9,12 @@ use Rattle.world_model.specs.Run.{State, Outcome}
 use Rattle.core_form.specs.Core.{Module}
 use Rattle.core_meaning.specs.CoreRun as E
 use Rattle.core_meaning.specs.CoreRun.{apart_of, deep, known, known_export, site_named, ended, evaluated}
-use Rattle.beam_table.specs.Code.{AsmFun, AsmModule}
+use Rattle.beam_table.specs.Code.{AsmFun}
 use Rattle.beam_table.specs.ValidModule.{every}
 use Rattle.pass_contract.specs.Lawful.{Lawful, IsLawful}
 use Rattle.pass_contract.specs.PassContract.{IsMeaning}
 use Rattle.pass_contract.proofs.Modules.{lawful_itself}
-use Rattle.behaviour.specs.Called.{Called, export_keys}
+use Rattle.behaviour.specs.Called.{export_keys}
 use Rattle.behaviour.specs.FunctionsGiveModule.{Finds, Compiled, BindsNone, CompiledCheaply}
 use Rattle.behaviour.specs.SameBehaviour.{SameBehaviour, TailCalls}
 use Rattle.behaviour.specs.PlainModules.{PlainFun, plain_asm, plain_assembly, IsPlainModule, PlainModulesBehave}

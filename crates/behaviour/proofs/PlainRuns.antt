@@ -1,5 +1,5 @@
 -- Plain functions as runs, and what their code does: it realizes them.
-use Rattle.std.proofs.Common.{◌≡◌, ◌≢◌, ◌+◌, ◌*◌, ℕ, ℤ, zero, suc, List, [], ◌∷◌, length, get_or, slice_get, eqb, if◌then◌else◌, true, Bool, Option, None, Some, refl, sym, ap, ◌∙◌, subst}
+use Rattle.std.proofs.Common.{◌≡◌, ◌≢◌, ◌+◌, ◌*◌, ℕ, ℤ, zero, suc, List, [], ◌∷◌, length, get_or, slice_get, eqb, if◌then◌else◌, true, Option, None, Some, refl, sym, ap, ◌∙◌, subst}
 use Rattle.std.proofs.lemmas.Bool.{eq-eqb}
 use Rattle.erl_base.specs.declared.ids.FunKey.{FunKey}
 use Rattle.erl_base.specs.Names.{Name, same_key}
@@ -10,8 +10,8 @@ use Rattle.world_model.specs.World.{Reply}
 use Rattle.world_model.specs.Run.{State, Outcome, gives}
 use Rattle.step_machine.specs.Frames.{with_cell}
 use Rattle.step_machine.specs.Steps.{Event, goes, perform, run}
-use Rattle.beam_table.specs.Code.{Insn, x_reg, AsmFun, AsmModule, return}
-use Rattle.beam_table.specs.MachineState.{Cell, Activation, Machine, term, unset}
+use Rattle.beam_table.specs.Code.{x_reg, AsmFun, AsmModule, return}
+use Rattle.beam_table.specs.MachineState.{Activation, Machine, term, unset}
 use Rattle.beam_table.specs.GeneralRules.{needs, cells, write, returns_to}
 use Rattle.beam_table.specs.Data.{is_movable}
 use Rattle.beam_table.specs.InstructionStep.{step}

@@ -3,7 +3,7 @@ use Rattle.std.proofs.Common.{◌≡◌, ◌≤◌, ◌⊎◌, inl, inr, ℕ, ze
 use Rattle.std.proofs.Math.Nat.{le-max_left}
 use Rattle.erl_base.specs.declared.ids.FunKey.{FunKey}
 use Rattle.erl_term.specs.Term.{Term}
-use Rattle.pass_contract.specs.PassContract.{deepest, most_made, most_named, KeepsShape}
+use Rattle.pass_contract.specs.PassContract.{deepest, most_made, KeepsShape}
 use Rattle.ssa_form.specs.PassView.{ssa_form}
 use Rattle.pass_examples.specs.MarkRoom.{binds_call, calling_body, marking_body, and_to_come, CallsLeaveRoom}
 

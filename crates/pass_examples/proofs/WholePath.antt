@@ -28,7 +28,7 @@ use Rattle.beam_table.specs.Code.{Reg, Source, Insn, move, return, call_only, gc
 use Rattle.beam_table.specs.GeneralRules as GeneralRules
 use Rattle.beam_table.specs.GeneralRules.{returns_to, cells}
 use Rattle.beam_table.specs.InstructionStep.{step}
-use Rattle.beam_table.specs.MachineState.{Cell, Activation, Machine}
+use Rattle.beam_table.specs.MachineState.{Activation, Machine}
 use Rattle.kernel_form.specs.Kernel as K
 use Rattle.kernel_meaning.specs.Forms.{core_body, core_runs, kernel_runs}
 use Rattle.kernel_meaning.proofs.Proper as Kernel
