@@ -2,3 +2,4 @@ mod SmallPath
 mod WholePath
 mod Refused
 mod MarkRoom
+mod UpdatingGuard

@@ -12,6 +12,7 @@ ghost use Rattle.pass_contract.specs.PassContract.{most_named};
 ghost use Rattle.pass_examples.specs.SmallPath.{SmallPathsKeep};
 ghost use Rattle.pass_examples.specs.WholePath.{WholePath};
 ghost use Rattle.pass_examples.specs.MarkRoom.{CallsLeaveRoom};
+ghost use Rattle.pass_examples.specs.UpdatingGuard.{UpdatingGuardsKeep};
 ghost use Rattle.pass_examples.specs.Refused.{WrongPassesRefused};
 
 /// Functions of one parameter, from kernel form to a body with frames: each step keeps what passes keep, and tests and
@@ -30,6 +31,11 @@ pub fn whole_path_behaves()
 /// choice and one sub-binary more are refused; what is not compared is not.
 pub fn wrong_passes_refused()
     ensures { WrongPassesRefused }
+{}
+
+/// A receive whose guard updates a map, and its body: it keeps what passes keep, whatever the mailbox and the world.
+pub fn updating_guards_keep()
+    ensures { UpdatingGuardsKeep }
 {}
 
 /// A let-bound call leaves room for the variable of its marker.
