@@ -3,3 +3,4 @@ mod WholePath
 mod Refused
 mod MarkRoom
 mod UpdatingGuard
+mod FormedReceive

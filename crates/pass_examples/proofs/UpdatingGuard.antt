@@ -1,5 +1,7 @@
 -- A receive whose guard updates a map, in kernel form and as a body: both do the same, message by message.
-use Rattle.std.proofs.Common.{◌≡◌, ◌≤◌, ◌+◌, inl, ℕ, zero, suc, List, [], ◌∷◌, ◌++◌, length, Bool, true, false, eqb, slice_get, IsTrue, Option, Some, None, if◌then◌else◌, refl, sym, ap, ◌∙◌, subst, append_assoc, arith}
+use Rattle.std.proofs.Common.{◌≡◌, ◌≤◌, ◌<◌, ◌||◌, ◌+◌, inl, Contains, get_or, ℕ, zero, suc, List, [], ◌∷◌, ◌++◌, length, Bool, true, false, eqb, slice_get, IsTrue, Option, Some, None, if◌then◌else◌, refl, sym, ap, ◌∙◌, subst, append_assoc, arith}
+use Rattle.std.proofs.lemmas.Bool.{eq-eqb}
+use Rattle.erl_base.specs.Lists.{among}
 use Rattle.erl_base.specs.Names.{Name}
 use Rattle.erl_base.specs.declared.ids.FunKey.{FunKey}
 use Rattle.erl_term.specs.Term as T
@@ -17,6 +19,7 @@ use Rattle.step_machine.specs.Bodies.{Here, here_of}
 use Rattle.kernel_form.specs.Kernel as K
 use Rattle.kernel_meaning.specs.Environment.{Env, Setting, no_rests, no_values, with_value, with_values}
 use Rattle.kernel_meaning.specs.KernelRun.{meaning, tree_does, no_falls, fun_does}
+use Rattle.kernel_meaning.specs.KernelPredicate.{WellFormed}
 use Rattle.kernel_meaning.specs.Forms as Kernel
 use Rattle.kernel_meaning.specs.Forms.{setting_in, kernel_does}
 use Rattle.kernel_meaning.proofs.Agreeing.{same_state, noted_same, answered_same}
@@ -30,6 +33,7 @@ use Rattle.pass_contract.specs.Lawful.{IsLawful}
 use Rattle.pass_contract.specs.SameRun.{Compared, SameState, SameResult, EntersAgree}
 use Rattle.pass_contract.specs.PassContract.{Run, undef, fitting, ComesTo, GivesSame, Agrees, KeepsShape, AddsNoTest}
 use Rattle.pass_contract.proofs.Fitting.{fitting_suffices}
+use Rattle.pass_examples.proofs.FormedReceive.{formed}
 use Rattle.pass_examples.specs.UpdatingGuard.{late, takes_maps, receiving_map, kernel_receives, body_receives, but_marks, none_to_come, UpdatingGuardsKeep}
 
 -- What the receive does, by itself.
@@ -346,5 +350,44 @@ module _ (c : Bool) (m : InModule) (k : FunKey) (n : ℕ) where
   tests : AddsNoTest (Kernel.form_of (kernel_receives k n)) (ssa_form none_to_come (body_receives n))
   tests = record { tests = omega arith; choices = omega arith }
 
+-- The function is well formed.
+
+not_in : (v : ℕ) (vs : List ℕ) → among v vs ≡ false → Contains vs v → ⊥
+not_in v [] e (i, l, p) = omega (arith, l)
+not_in v (u ∷ vs) e (zero, l, p) =
+    let q : eqb v u ≡ true = eq-eqb v u (sym p) in
+    let z : (eqb v u || among v vs) ≡ true = ap (λ b. b || among v vs) q in absurd cc
+not_in v (u ∷ vs) e (suc i, l, p) = not_in v vs (right (eqb v u) e) (i, omega (arith, l), p)
+  where
+    right : (b : Bool) → (b || among v vs) ≡ false → among v vs ≡ false
+    right true f = absurd cc
+    right false f = f
+
+below_three : (i d : ℕ) → i < 3 → get_or (0 ∷ 1 ∷ 2 ∷ []) i d < 3
+below_three zero d l = omega arith
+below_three (suc zero) d l = omega arith
+below_three (suc (suc zero)) d l = omega arith
+below_three (suc (suc (suc i))) d l = absurd (omega (arith, l))
+
+source : (ws : List ℕ) (k : FunKey) (n : ℕ) → WellFormed ws (kernel_receives k n)
+source ws k n = record {
+  gives = refl;
+  fresh = (not_in 0 (1 ∷ 2 ∷ []) refl, (not_in 1 (2 ∷ []) refl, (not_in 2 [] refl, tt)));
+  scoped = refl;
+  next = below_three;
+  calls = refl;
+  switches = refl;
+  steps = refl;
+  guards = refl;
+  plain_guards = refl;
+  windows = refl;
+  receives = (not_in 7 [] refl, tt);
+}
+
 pub updating_guards_keep : UpdatingGuardsKeep
-updating_guards_keep c m k n = record { kept = record { agrees = agree c m k n; shape = shape c m k n }; tests = tests c m k n }
+updating_guards_keep c m k n = record {
+  source = source m.widths k n;
+  formed = formed n;
+  kept = record { agrees = agree c m k n; shape = shape c m k n };
+  tests = tests c m k n;
+}

@@ -6,12 +6,14 @@ use Rattle.erl_term.specs.Term as T
 use Rattle.erl_term.specs.Term.{Term}
 use Rattle.kernel_form.specs.Kernel as K
 use Rattle.kernel_meaning.specs.Forms as Kernel
+use Rattle.kernel_meaning.specs.KernelPredicate as KernelPredicate
 use Rattle.pass_contract.specs.SameRun.{Compared}
 use Rattle.pass_contract.specs.InModule.{InModule}
 use Rattle.pass_contract.specs.PassContract.{AddsNoTest, Keeps}
 use Rattle.ssa_form.specs.Ssa as S
 use Rattle.ssa_form.specs.Ssa.{Body, block, set, br, succeeded, ret}
 use Rattle.ssa_form.specs.PassView.{Ahead, ssa_form}
+use Rattle.ssa_form.specs.WellFormed.{WellFormed}
 
 -- the key and its value
 abbrev pub key : Term
@@ -66,8 +68,10 @@ but_marks cuts = record { marks = false; cuts = cuts }
 abbrev pub none_to_come : Ahead
 none_to_come = record { next = 3; wanted = 0 }
 
--- it keeps the contract, however the module is set, and adds no test
+-- both are well formed; the body keeps the contract, however the module is set, and adds no test
 pub record UpdatingGuard (cuts : Bool) (m : InModule) (k : FunKey) (n : ℕ) : Type 0 where
+  pub source : KernelPredicate.WellFormed m.widths (kernel_receives k n)
+  pub formed : WellFormed (body_receives n)
   pub kept : Keeps (but_marks cuts) m (Kernel.form_of (kernel_receives k n)) (ssa_form none_to_come (body_receives n))
   pub tests : AddsNoTest (Kernel.form_of (kernel_receives k n)) (ssa_form none_to_come (body_receives n))
 
