@@ -93,7 +93,12 @@ module _ (a : AsmModule) (own : Term) (l s : ℕ) (f : AsmFun) (vs : Values) (fo
     call_only_realizes =
         call_enters (target a own) d s true true (λ e. e) here vs above _ _ rs log st all le only_step
         (entry_is above (record (ready f.code [] None above m) { room = 0 }))
-        (record { replies = w.replies; noted = w.noted; costs = w.costs; mailbox = holds_ready own st m _ _ _ _ w.mailbox })
+        (record {
+          replies = w.replies;
+          noted = w.noted;
+          costs = w.costs;
+          mailbox = holds_ready own st m _ _ _ _ w.mailbox;
+        })
         (λ u h. record {
           own = h.own;
           mailbox = h.mailbox;
@@ -127,7 +132,12 @@ module _ (a : AsmModule) (own : Term) (l s : ℕ) (f : AsmFun) (vs : Values) (fo
       called =
           call_enters (target a own) d s false false (λ e. e) here vs (waiting ∷ above) _ _ rs log st all le call_step
           (entry_is (waiting ∷ above) (record (ready f.code [] None above m) { room = 0 }))
-          (record { replies = w.replies; noted = w.noted; costs = w.costs; mailbox = holds_ready own st m _ _ _ _ w.mailbox })
+          (record {
+            replies = w.replies;
+            noted = w.noted;
+            costs = w.costs;
+            mailbox = holds_ready own st m _ _ _ _ w.mailbox;
+          })
           (λ u h. record {
             own = h.own;
             mailbox = h.mailbox;

@@ -62,7 +62,8 @@ module _ (a : AsmModule) (own : Term) (above : List Activation) (m : Machine) (r
   -- code comes to the return of a term
   abbrev ComesBack : PlainBody → Values → Term → Type 0
   ComesBack b vs t =
-      Comes (target a own) (ready (plain_code b) (cells vs) None above m) rs log (returns_to above t (valued t vs)) rs log
+      Comes (target a own) (ready (plain_code b) (cells vs) None above m) rs log
+      (returns_to above t (valued t vs)) rs log
 
   number_comes : (z : ℤ) (vs : Values) → ComesBack (number z) vs (T.int z)
   unfolding step run

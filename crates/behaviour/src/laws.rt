@@ -25,8 +25,8 @@ pub fn passes_give_the_costs()
     ensures { PassesGiveCosts }
 {}
 
-/// Results that are the same, whatever is compared, show what a machine needs to follow the older one, and to keep its costs
-/// where sub-binaries are.
+/// Results that are the same, whatever is compared, show what a machine needs to follow the older one, and to keep its
+/// costs where sub-binaries are.
 #[tactic(auto, using(crate::proofs::Whole::same_results_show))]
 pub fn same_results_show()
     ensures { SameResultsShow }

@@ -1,5 +1,5 @@
--- The sizes of tuples that a function in kernel form names, and how many tests and choices a body made of it has at most
--- (this project's own).
+-- The sizes of tuples that a function in kernel form names, and how many tests and choices a body made of it has at
+-- most (this project's own).
 use Rattle.std.specs.Prelude.{ℕ, ◌+◌, List, [], ◌∷◌, sum, Bool, true, false, ◌&&◌, if◌then◌else◌}
 use Rattle.erl_term.specs.Term as T
 use Rattle.kernel_form.specs.Kernel.{bif, CaseShape, is, is_tuple, Seg, seg, bind, Segs, no_seg, and_seg, BinStep, start, integer, take_bits, done, mark, back, Expr, simple, Tree, switch, step, guarded, Case, case, Cases, no_case, and_case, SegRow, seg_row}

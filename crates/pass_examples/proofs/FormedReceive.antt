@@ -1,100 +1,19 @@
 -- The body of a receive whose guard updates a map is well formed: places that ways reach are listed, and judged one by
 -- one.
-use Rattle.std.proofs.Common.{◌≡◌, ◌≢◌, ◌≤◌, ◌<◌, ◌⊎◌, inl, inr, ⊎_elim, ℕ, zero, suc, List, [], ◌∷◌, ◌++◌, length, Bool, true, false, not, ◌&&◌, ◌||◌, eqb, ltb, Option, Some, None, IsTrue, IsFalse, Contains, refl, sym, ap, ◌∙◌, subst, arith}
-use Rattle.std.proofs.lemmas.Bool.{eqb-true, eq-eqb, ltb-true}
+use Rattle.std.proofs.Common.{◌≡◌, ◌≢◌, ◌<◌, ◌⊎◌, inl, inr, ⊎_elim, ℕ, zero, suc, List, [], ◌∷◌, ◌++◌, Bool, true, false, not, ◌&&◌, ◌||◌, eqb, ltb, Option, Some, None, Contains, refl, sym, ap, ◌∙◌, subst, arith}
+use Rattle.std.proofs.lemmas.Bool.{eqb-true, ltb-true}
 use Rattle.erl_base.specs.Lists.{among}
 use Rattle.ssa_form.specs.Ssa as S
 use Rattle.ssa_form.specs.Ssa.{Op, Set, Last, succeeded, Body, block_at}
-use Rattle.ssa_form.specs.Storage.{Handler, Mode, plain, tail, jump, tests}
+use Rattle.ssa_form.specs.Storage.{Handler, Mode, tests}
 use Rattle.ssa_form.specs.SetFacts.{is_tests, given_vars, all_among, none_among, in_form, may_raise, may_ask, is_peek, is_try_start, breaks_cycle, ends_window, unsets_registers}
 use Rattle.ssa_form.specs.Flow.{Point, point, next, set_at, last_at, last_of, targets, phis_at, phi_vars, phi_reads, Effect, along_edge, after_op, opened, Step, passes, leads, succeeds, fails, raises, Way, begins, goes, Reached, Leads, Passing, one, more}
 use Rattle.ssa_form.specs.Liveness.{used_at, values_at, lands_first, LiveFrom, used, by_phi, later, LiveAfter, read, live, Across, over, lands}
 use Rattle.ssa_form.specs.ReceiveWindow as Window
 use Rattle.ssa_form.specs.ReceiveWindow.{ends_at, Look, InWindow, found, on, IsInside, SetIn, message, by_set, KeepsWindow}
-use Rattle.ssa_form.specs.WellFormed.{block_has, any_has, KeepsCycle, tests_nothing, tags_in, closes_first, is_ret, have_edges, lands_early, WellFormed}
+use Rattle.ssa_form.specs.WellFormed.{block_has, any_has, KeepsCycle, tests_nothing, tags_in, closes_first, have_edges, lands_early, WellFormed}
+use Rattle.pass_examples.proofs.Listed.{both, one_of, other, implied, is_false, contradicts, holds_all, at_each, same_point, is_place, point_is, at_place, or_right, or_left, all_through}
 use Rattle.pass_examples.specs.UpdatingGuard.{body_receives}
-
--- Tests over lists.
-
-both : (a b : Bool) → (a && b) ≡ true → (a ≡ true) × (b ≡ true)
-both true b e = (refl, e)
-both false b e = absurd cc
-
-one_of : (a b : Bool) → (a || b) ≡ true → (a ≡ true) ⊎ (b ≡ true)
-one_of true b e = inl refl
-one_of false b e = inr e
-
-other : (a b : Bool) → (a || b) ≡ true → a ≡ false → b ≡ true
-other true b e f = absurd cc
-other false b e f = e
-
-implied : (a b : Bool) → (not a || b) ≡ true → a ≡ true → b ≡ true
-implied true b e f = e
-implied false b e f = absurd cc
-
-is_false : (a : Bool) → not a ≡ true → a ≡ false
-is_false true e = absurd cc
-is_false false e = refl
-
-contradicts : {A : Type 0} (a : Bool) → a ≡ true → a ≡ false → A
-contradicts true e f = absurd cc
-contradicts false e f = absurd cc
-
-abbrev holds_all : {A : Type 0} → (A → Bool) → List A → Bool
-holds_all f [] = true
-holds_all f (x ∷ xs) = f x && holds_all f xs
-
-at_each : {A : Type 0} (f : A → Bool) (xs : List A) (x : A) → holds_all f xs ≡ true → Contains xs x → f x ≡ true
-at_each f [] x h (k, l, e) = absurd (omega (arith, l))
-at_each f (y ∷ xs) x h (zero, l, e) = subst (λ z. f z ≡ true) e (both _ _ h).0
-at_each f (y ∷ xs) x h (suc k, l, e) = at_each f xs x (both _ _ h).1 (k, omega (arith, l), e)
-
-abbrev same_point : Point → Point → Bool
-same_point p q = eqb p.block q.block && eqb p.done q.done
-
-abbrev is_place : Point → List Point → Bool
-is_place p [] = false
-is_place p (q ∷ qs) = same_point p q || is_place p qs
-
-point_is : (p q : Point) → same_point p q ≡ true → p ≡ q
-point_is p q e =
-    let w : (eqb p.block q.block ≡ true) × (eqb p.done q.done ≡ true) = both _ _ e in
-    λ i. record { block = eqb-true p.block q.block w.0 i; done = eqb-true p.done q.done w.1 i }
-
--- what holds of all places holds of each
-at_place : (f : Point → Bool) (ps : List Point) (p : Point) → holds_all f ps ≡ true → is_place p ps ≡ true → f p ≡ true
-at_place f [] p h e = absurd cc
-at_place f (q ∷ qs) p h e = ⊎_elim
-    (λ s. subst (λ z. f z ≡ true) (sym (point_is p q s)) (both _ _ h).0)
-    (λ s. at_place f qs p (both _ _ h).1 s) (one_of _ _ e)
-
-among_in : (v : ℕ) (zs vs : List ℕ) → among v zs ≡ true → all_among zs vs ≡ true → among v vs ≡ true
-among_in v [] vs e a = absurd cc
-among_in v (z ∷ zs) vs e a = ⊎_elim
-    (λ s. subst (λ u. among u vs ≡ true) (sym (eqb-true v z s)) (both _ _ a).0)
-    (λ s. among_in v zs vs s (both _ _ a).1) (one_of _ _ e)
-
-or_right : (a b : Bool) → b ≡ true → (a || b) ≡ true
-or_right true b e = refl
-or_right false b e = e
-
-or_left : (a b : Bool) → a ≡ true → (a || b) ≡ true
-or_left true b e = refl
-or_left false b e = absurd cc
-
-among_through : (v : ℕ) (ys zs vs : List ℕ) → among v (ys ++ zs) ≡ true → all_among zs vs ≡ true
-    → among v (ys ++ vs) ≡ true
-among_through v [] zs vs e a = among_in v zs vs e a
-among_through v (y ∷ ys) zs vs e a = ⊎_elim (λ s. or_left (eqb v y) (among v (ys ++ vs)) s)
-    (λ s. or_right (eqb v y) (among v (ys ++ vs)) (among_through v ys zs vs s a)) (one_of _ _ e)
-
-all_through : (xs ys zs vs : List ℕ) → all_among xs (ys ++ zs) ≡ true → all_among zs vs ≡ true
-    → all_among xs (ys ++ vs) ≡ true
-all_through [] ys zs vs e a = refl
-all_through (x ∷ xs) ys zs vs e a =
-    let p : among x (ys ++ vs) ≡ true = among_through x ys zs vs (both _ _ e).0 a in
-    let q : all_among xs (ys ++ vs) ≡ true = all_through xs ys zs vs (both _ _ e).1 a in
-    ap (λ c. c && all_among xs (ys ++ vs)) p ∙ q
 
 -- The places that ways reach; what is set there besides the message; how far the next look is; the places from the look
 -- on, up to the end of its window; and those at which the message is not needed.
@@ -271,7 +190,8 @@ module _ (site : ℕ) where
       (subst (λ o. succeeds_well p o (last_of (block_at b p.block)) ≡ true) f
       (at_place (λ z. succeeds_well z (set_at b z) (last_of (block_at b z.block))) places p refl w)) in
       along p t (given_vars x) _
-      (subst (λ z. opened x.op x.dst e z ≡ []) (sym h) (opens_none x.op x.dst e (is_false _ (both _ _ k).0))) (both _ _ k).1
+      (subst (λ z. opened x.op x.dst e z ≡ []) (sym h) (opens_none x.op x.dst e (is_false _ (both _ _ k).0)))
+      (both _ _ k).1
   step_well _ _ _ _ _ w h (fails p hs x e f g) = along p e [] hs h
       (subst (λ o. fails_well p o ≡ true) f (at_place (λ z. fails_well z (set_at b z)) places p refl w))
   step_well _ _ _ _ _ w h (raises p i hs x m f g) = let z : i ∷ hs ≡ [] = h in absurd cc
@@ -302,7 +222,8 @@ module _ (site : ℕ) where
   unhandled p hs r = (stands p r.0 hs r.1).none
 
   -- a step from where a way leads
-  reached_well : (p q : Point) (hs is' : List Handler) (e : Effect) → Reached b p hs → Step b p hs q is' e → Well p q is' e
+  reached_well : (p q : Point) (hs is' : List Handler) (e : Effect) → Reached b p hs → Step b p hs q is' e
+      → Well p q is' e
   reached_well p q hs is' e r s = step_well p q hs is' e (there p hs r) (unhandled p hs r) s
 
   -- what is tested of the set at a place holds of it
@@ -530,7 +451,8 @@ module _ (site : ℕ) where
       let w : LeadsWell (point n l.0) m = led_well n m l in
       let z : is_place (point m 0) inside ≡ true = begins_inside m k (in_window (point m k) hs i).place in
       ⊎_elim
-      (λ e. absurd (out (subst (λ j. IsInside b 1 j) (sym (ap (λ (q : Point). q.block) (point_is _ _ e))) starts_inside)))
+      (λ e. absurd (out (subst (λ j. IsInside b 1 j) (sym (ap (λ (q : Point). q.block) (point_is _ _ e)))
+      starts_inside)))
       (λ e. eqb-true n 1 e)
       (one_of (same_point (point n l.0) (point 2 0)) (eqb n 1)
       (implied (is_place (point m 0) inside) (same_point (point n l.0) (point 2 0) || eqb n 1) w.enters z))

@@ -3,4 +3,5 @@ mod WholePath
 mod Refused
 mod MarkRoom
 mod UpdatingGuard
+mod Listed
 mod FormedReceive

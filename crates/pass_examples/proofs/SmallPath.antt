@@ -219,7 +219,8 @@ does_by body q h z =
     alone_so here v s r (suc k) e = some_is _ _ (sym e ∙ h here v s k)
 
 -- a call that raises an error
-pub raised_error : (own v : Term) (s : State) → one (call_terms own erlang error (v ∷ [])) give s ≡ (s, raises T.error v)
+pub raised_error : (own v : Term) (s : State) → one (call_terms own erlang error (v ∷ [])) give s ≡
+    (s, raises T.error v)
 unfolding call_terms call_erlang answer
 raised_error own v s = refl
 
@@ -257,7 +258,8 @@ ssa_result m n (calls_out t u) h here v s k =
     ends_over in_vars (around_in m) here (blocks in_vars (around_in m) here (ssa_body n (calls_out t u)) k) 0
     (ret (S.var 1)) _ (call_terms here.own t u (v ∷ []) s)
 ssa_result m n fails h here v s k = ends_over in_vars (around_in m) here
-    (blocks in_vars (around_in m) here (ssa_body n fails) k) 0 (ret (S.var 1)) (chain_does in_vars (around_in m) here [] (ret (S.var 1)) [])
+    (blocks in_vars (around_in m) here (ssa_body n fails) k) 0 (ret (S.var 1))
+    (chain_does in_vars (around_in m) here [] (ret (S.var 1)) [])
     (call_terms here.own erlang error (v ∷ []) s) ∙ ap Some (raised_error here.own v s)
 ssa_result m n takes_length h here v s k = ssa_length (around_in m) n here v s k (answer B.Length here.own (v ∷ []))
 
@@ -291,7 +293,8 @@ placed_result m n (calls_out t u) h here v s k = ends_over (in_registers spots) 
     (blocks (in_registers spots) (around_in m) here (ssa_body n (calls_out t u)) k) 0 (ret (S.var 1)) _
     (call_terms here.own t u (v ∷ []) s)
 placed_result m n fails h here v s k = ends_over (in_registers spots) (around_in m) here
-    (blocks (in_registers spots) (around_in m) here (ssa_body n fails) k) 0 (ret (S.var 1)) (chain_does (in_registers spots) (around_in m) here [] (ret (S.var 1)) [])
+    (blocks (in_registers spots) (around_in m) here (ssa_body n fails) k) 0 (ret (S.var 1))
+    (chain_does (in_registers spots) (around_in m) here [] (ret (S.var 1)) [])
     (call_terms here.own erlang error (v ∷ []) s) ∙ ap Some (raised_error here.own v s)
 placed_result m n takes_length h here v s k =
     placed_length (around_in m) n here v s k (answer B.Length here.own (v ∷ []))
@@ -324,7 +327,8 @@ framed_result m n (calls_out t u) h here v s k = ends_over (in_stack spots ((0, 
     (blocks (in_stack spots ((0, 1) ∷ [])) (around_in m) here (ssa_body n (calls_out t u)) k) 0 (ret (S.var 1)) _
     (call_terms here.own t u (v ∷ []) s)
 framed_result m n fails h here v s k = ends_over (in_stack spots ((0, 1) ∷ [])) (around_in m) here
-    (blocks (in_stack spots ((0, 1) ∷ [])) (around_in m) here (ssa_body n fails) k) 0 (ret (S.var 1)) (chain_does (in_stack spots ((0, 1) ∷ [])) (around_in m) here [] (ret (S.var 1)) [])
+    (blocks (in_stack spots ((0, 1) ∷ [])) (around_in m) here (ssa_body n fails) k) 0 (ret (S.var 1))
+    (chain_does (in_stack spots ((0, 1) ∷ [])) (around_in m) here [] (ret (S.var 1)) [])
     (call_terms here.own erlang error (v ∷ []) s) ∙ ap Some (raised_error here.own v s)
 framed_result m n takes_length h here v s k =
     framed_length (around_in m) n here v s k (answer B.Length here.own (v ∷ []))

@@ -1,38 +1,33 @@
 -- A receive whose guard updates a map, in kernel form and as a body: both do the same, message by message.
-use Rattle.std.proofs.Common.{◌≡◌, ◌≤◌, ◌<◌, ◌||◌, ◌+◌, inl, Contains, get_or, ℕ, zero, suc, List, [], ◌∷◌, ◌++◌, length, Bool, true, false, eqb, slice_get, IsTrue, Option, Some, None, if◌then◌else◌, refl, sym, ap, ◌∙◌, subst, append_assoc, arith}
+use Rattle.std.proofs.Common.{◌≡◌, ◌<◌, ◌||◌, ◌+◌, inl, Contains, get_or, ℕ, zero, suc, List, [], ◌∷◌, ◌++◌, length, Bool, true, false, eqb, slice_get, Option, Some, None, if◌then◌else◌, refl, sym, ap, ◌∙◌, subst, append_assoc, arith}
 use Rattle.std.proofs.lemmas.Bool.{eq-eqb}
 use Rattle.erl_base.specs.Lists.{among}
-use Rattle.erl_base.specs.Names.{Name}
 use Rattle.erl_base.specs.declared.ids.FunKey.{FunKey}
 use Rattle.erl_term.specs.Term as T
 use Rattle.erl_term.specs.Term.{Term}
-use Rattle.erl_term.specs.Terms.{Values, only}
+use Rattle.erl_term.specs.Terms.{Values}
 use Rattle.erl_term.specs.Depth.{depths}
 use Rattle.erl_term.specs.WellFormed.{maps_rise}
 use Rattle.world_model.specs.World as W
 use Rattle.world_model.specs.World.{Reply, Message, asked, taken}
-use Rattle.world_model.specs.Run.{Note, happened, looked, began, cut, noting, State, Outcome, gives, waits, M, going_on, give, answered, numbered}
+use Rattle.world_model.specs.Run.{Note, happened, looked, began, cut, noting, State, Outcome, gives, waits, M, give, answered, numbered}
 use Rattle.world_model.specs.Meaning.{one}
 use Rattle.world_model.specs.MapUpdate.{put_each, put_all}
 use Rattle.world_model.specs.Receive.{now, new_or, without, taking, try_each, looking, Tried}
 use Rattle.step_machine.specs.Bodies.{Here, here_of}
-use Rattle.kernel_form.specs.Kernel as K
 use Rattle.kernel_meaning.specs.Environment.{Env, Setting, no_rests, no_values, with_value, with_values}
 use Rattle.kernel_meaning.specs.KernelRun.{meaning, tree_does, no_falls, fun_does}
 use Rattle.kernel_meaning.specs.KernelPredicate.{WellFormed}
 use Rattle.kernel_meaning.specs.Forms as Kernel
 use Rattle.kernel_meaning.specs.Forms.{setting_in, kernel_does}
-use Rattle.kernel_meaning.proofs.Agreeing.{same_state, noted_same, answered_same}
-use Rattle.ssa_form.specs.Ssa as S
+use Rattle.kernel_meaning.proofs.Agreeing.{noted_same, answered_same}
 use Rattle.ssa_form.specs.Storage as Held
 use Rattle.ssa_form.specs.Storage.{Frame}
 use Rattle.ssa_form.specs.SsaRun.{Vars, in_vars, blocks, all_terms, ssa_run}
 use Rattle.ssa_form.specs.PassView.{result_of, around_in, ssa_does, ssa_form}
 use Rattle.pass_contract.specs.InModule.{InModule}
-use Rattle.pass_contract.specs.Lawful.{IsLawful}
-use Rattle.pass_contract.specs.SameRun.{Compared, SameState, SameResult, EntersAgree}
-use Rattle.pass_contract.specs.PassContract.{Run, undef, fitting, ComesTo, GivesSame, Agrees, KeepsShape, AddsNoTest}
-use Rattle.pass_contract.proofs.Fitting.{fitting_suffices}
+use Rattle.pass_contract.specs.SameRun.{Compared, SameState, SameResult}
+use Rattle.pass_contract.specs.PassContract.{undef, ComesTo, GivesSame, Agrees, KeepsShape, AddsNoTest}
 use Rattle.pass_examples.proofs.FormedReceive.{formed}
 use Rattle.pass_examples.specs.UpdatingGuard.{late, takes_maps, receiving_map, kernel_receives, body_receives, but_marks, none_to_come, UpdatingGuardsKeep}
 
@@ -61,7 +56,8 @@ tries (x ∷ xs) k = tries_one (is_map x.term) x (tries xs k)
 
 abbrev looks : List Reply → M Term
 looks [] = λ s. (s, waits W.look)
-looks (r ∷ rs) = λ s. new_or r.arrivals (give late) (tries (numbered s.next r.arrivals) (looks rs)) (answered W.look r rs s)
+looks (r ∷ rs) = λ s. new_or r.arrivals (give late) (tries (numbered s.next r.arrivals) (looks rs))
+    (answered W.look r rs s)
 
 abbrev receives : M Term
 receives s = tries s.mailbox (λ u. looks u.replies u) s
@@ -111,7 +107,8 @@ module _ (c : Bool) where
     abbrev Goes : M Values → M Term → Type 0
     Goes k k' = (s t : State) → SameState what s t → SameResult what (after_give k s) (k' t)
 
-    tries_agree : (k : M Values) (k' : M Term) → Goes k k' → (ms : List Message) → Goes (try_each pick ms k) (tries ms k')
+    tries_agree : (k : M Values) (k' : M Term) → Goes k k' → (ms : List Message) → Goes (try_each pick ms k)
+        (tries ms k')
     tries_agree k k' h [] s t e = h s t e
     tries_agree k k' h (x ∷ xs) s t e = by (tries_agree k k' h xs) (is_map x.term) (pick x.term).body (pick_is x.term)
       where
@@ -132,7 +129,8 @@ module _ (c : Bool) where
     looks_agree [] s t e = record { state = e; end = refl }
     looks_agree (r ∷ rs) s t e = by (looks_agree rs) r.arrivals (answered_same what W.look r rs s t e)
       where
-        by : Goes (looking pick now (give (late ∷ [])) rs) (looks rs) → (us : List Term) → SameState what (answered W.look r rs s) (answered W.look r rs t) → SameResult what
+        by : Goes (looking pick now (give (late ∷ [])) rs) (looks rs) → (us : List Term) → SameState what
+            (answered W.look r rs s) (answered W.look r rs t) → SameResult what
             (after_give (new_or us (give (late ∷ []))
             (try_each pick (numbered s.next us) (looking pick now (give (late ∷ [])) rs))) (answered W.look r rs s))
             (new_or us (give late) (tries (numbered t.next us) (looks rs)) (answered W.look r rs t))
@@ -144,14 +142,17 @@ module _ (c : Bool) where
 
     ends_agree : Goes (λ u. looking pick now (give (late ∷ [])) u.replies u) (λ u. looks u.replies u)
     ends_agree s t e = subst
-        (λ rs. SameResult what (after_give (looking pick now (give (late ∷ [])) s.replies) s) (looks rs t)) (sym e.replies)
+        (λ rs. SameResult what (after_give (looking pick now (give (late ∷ [])) s.replies) s) (looks rs t))
+        (sym e.replies)
         (looks_agree s.replies s t e)
 
     receives_agree : (o : Option Term) (s t : State) → SameState what s t → SameResult what
-        (after_give (try_each pick s.mailbox (λ u. looking pick now (give (late ∷ [])) u.replies u)) (noting (began o) s))
+        (after_give (try_each pick s.mailbox (λ u. looking pick now (give (late ∷ [])) u.replies u))
+        (noting (began o) s))
         (receives t)
     receives_agree o s t e = subst (λ ms. SameResult what
-        (after_give (try_each pick s.mailbox (λ u. looking pick now (give (late ∷ [])) u.replies u)) (noting (began o) s))
+        (after_give (try_each pick s.mailbox (λ u. looking pick now (give (late ∷ [])) u.replies u))
+        (noting (began o) s))
         (tries ms (λ u. looks u.replies u) t)) (sym e.mailbox)
         (tries_agree _ _ ends_agree s.mailbox (noting (began o) s) t (record {
           replies = e.replies;
@@ -318,7 +319,8 @@ module _ (c : Bool) (m : InModule) (k : FunKey) (n : ℕ) where
         result = (t, undef);
         gives = body_refuses (around_in m) (here_of name own g) n vs t q;
         same = subst (λ a. SameResult (but_marks c) a (t, undef))
-            (sym (kernel_refuses (setting_in m) k n (here_of name own f) vs s q) ∙ p) (record { state = e; end = refl });
+            (sym (kernel_refuses (setting_in m) k n (here_of name own f) vs s q) ∙ p)
+            (record { state = e; end = refl });
       }
 
       by_number : (vs : Values) → fun_does (setting_in m) (kernel_receives k n) (here_of name own f) vs s ≡ r
@@ -327,7 +329,8 @@ module _ (c : Bool) (m : InModule) (k : FunKey) (n : ℕ) where
       by_number (v ∷ []) p = record {
         result = receives t;
         gives = whole (around_in m) (here_of name own g) n v t;
-        same = subst (λ a. SameResult (but_marks c) a (receives t)) p (kernel_same c m k n (here_of name own f) v s t e);
+        same = subst (λ a. SameResult (but_marks c) a (receives t)) p
+            (kernel_same c m k n (here_of name own f) v s t e);
       }
       by_number (v ∷ u ∷ vs) p = refused (v ∷ u ∷ vs) (more_than_one (length vs)) p
 

@@ -87,7 +87,8 @@ placed_result n (calls_out t u) h here v s k = ends_over (in_registers register)
     (blocks (in_registers register) (around_in set_so) here (ssa_body n (calls_out t u)) k) 0 (ret (S.var 1)) _
     (call_terms here.own t u (v ∷ []) s)
 placed_result n fails h here v s k = ends_over (in_registers register) (around_in set_so) here
-    (blocks (in_registers register) (around_in set_so) here (ssa_body n fails) k) 0 (ret (S.var 1)) (chain_does (in_registers register) (around_in set_so) here [] (ret (S.var 1)) [])
+    (blocks (in_registers register) (around_in set_so) here (ssa_body n fails) k) 0 (ret (S.var 1))
+    (chain_does (in_registers register) (around_in set_so) here [] (ret (S.var 1)) [])
     (call_terms here.own erlang error (v ∷ []) s) ∙ ap Some (raised_error here.own v s)
 placed_result n takes_length h here v s k =
     placed_length (around_in set_so) n here v s k (answer B.Length here.own (v ∷ []))
@@ -120,7 +121,8 @@ framed_result n (calls_out t u) h here v s k = ends_over (in_stack register []) 
     (blocks (in_stack register []) (around_in set_so) here (ssa_body n (calls_out t u)) k) 0 (ret (S.var 1)) _
     (call_terms here.own t u (v ∷ []) s)
 framed_result n fails h here v s k = ends_over (in_stack register []) (around_in set_so) here
-    (blocks (in_stack register []) (around_in set_so) here (ssa_body n fails) k) 0 (ret (S.var 1)) (chain_does (in_stack register []) (around_in set_so) here [] (ret (S.var 1)) [])
+    (blocks (in_stack register []) (around_in set_so) here (ssa_body n fails) k) 0 (ret (S.var 1))
+    (chain_does (in_stack register []) (around_in set_so) here [] (ret (S.var 1)) [])
     (call_terms here.own erlang error (v ∷ []) s) ∙ ap Some (raised_error here.own v s)
 framed_result n takes_length h here v s k =
     framed_length (around_in set_so) n here v s k (answer B.Length here.own (v ∷ []))
@@ -339,7 +341,8 @@ row own = agreed _ (kernel_runs set_so funs) _ kernel_proper
     (ends (framed_runs set_so framed)))))
 
 same : (own : Term) → MeansSame sub_binaries_too core.name own (framed_runs set_so framed) (deep (known core own))
-same own = rows_mean sub_binaries_too _ _ (row own) core.name own (deep (known core own)) (Kernel.core_runs_mean core own)
+same own = rows_mean sub_binaries_too _ _ (row own) core.name own (deep (known core own))
+    (Kernel.core_runs_mean core own)
 
 -- The assembly.
 
@@ -474,7 +477,8 @@ module _ (own : Term) where
       one_term (v ∷ []) d enter above m rs log s all l one e w = subst
           (λ z. Realizes (target asm own) above z rs log
           (given_at (at_site n) (here_of core.name own enter) (v ∷ []) s))
-          (sym (entry_ready asm own n (v ∷ []) f.code above m s e w.mailbox (ap (λ g. g.code) (sym (fun_is e.function e.found)))))
+          (sym (entry_ready asm own n (v ∷ []) f.code above m s e w.mailbox
+          (ap (λ g. g.code) (sym (fun_is e.function e.found)))))
           (coded d enter v above m rs log s all l w)
       one_term (v ∷ u ∷ vs) d enter above m rs log s all l one e w = absurd (omega (arith, one))
 

@@ -33,7 +33,8 @@ pub fn wrong_passes_refused()
     ensures { WrongPassesRefused }
 {}
 
-/// A receive whose guard updates a map, and its body: it keeps what passes keep, whatever the mailbox and the world.
+/// A receive whose guard updates a map, and its body: both are well formed, and the body keeps what passes keep,
+/// whatever the mailbox and the world.
 pub fn updating_guards_keep()
     ensures { UpdatingGuardsKeep }
 {}
