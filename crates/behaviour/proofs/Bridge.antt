@@ -1,14 +1,17 @@
 -- From a machine that follows a meaning one way to what is said of modules.
-use Rattle.std.proofs.Common.{◌≡◌, inl, inr, ⊎_elim, ℕ, List, [], ◌∷◌, ◌++◌, length, Bool, IsFalse, refl, sym, ap, ◌∙◌, subst}
+use Rattle.std.proofs.Common.{◌≡◌, ◌+◌, inl, inr, ⊎_elim, ℕ, List, [], ◌∷◌, ◌++◌, length, map, ltb, if◌then◌else◌, Bool, false, IsFalse, Some, None, refl, sym, ap, ◌∙◌, subst, arith}
 use mathlib.Core.List.{reverse, reverse-cons, reverse-append}
 use lib.ListN.{length-reverse}
 use Rattle.world_model.specs.Run as Run
 use Rattle.world_model.specs.Run.{Entry, Looked, Outcome}
 use Rattle.world_model.specs.World.{Happening}
+use Rattle.world_model.specs.References.{after_note, serial_of, used}
 use Rattle.core_meaning.specs.CoreRun.{Result, result_of}
+use Rattle.core_meaning.specs.ReceiveCost.{examined}
 use Rattle.step_machine.specs.Follows as Ways
-use Rattle.step_machine.specs.Follows.{Meant, Noted, LeavesOut, KeepsTails, site_list, OneWay, bound_of}
+use Rattle.step_machine.specs.Follows.{Meant, Noted, Reaches, LeavesOut, KeepsTails, site_list, OneWay, bound_of}
 use Rattle.step_machine.specs.Steps.{Ran, sites}
+use Rattle.behaviour.specs.Realizes.{CostsNoted}
 use Rattle.behaviour.specs.Matched as Said
 use Rattle.behaviour.specs.Matched.{happened_in, entered_in, sites_in, examined_in}
 use Rattle.behaviour.specs.SameBehaviour as Whole
@@ -62,6 +65,19 @@ looks-reverse (Run.looked e ∷ ns) =
     ∙ ap (λ l. l ++ e ∷ []) (looks-reverse ns) ∙ sym (reverse-cons e (Run.looks ns))
 looks-reverse (n ∷ ns) =
     ap Run.looks (reverse-cons n ns) ∙ looks-append (reverse ns) (n ∷ []) ∙ append_nil _ ∙ looks-reverse ns
+
+marks-append : (a b : List Run.Note) → Run.marks (a ++ b) ≡ Run.marks a ++ Run.marks b
+marks-append [] b = refl
+marks-append (Run.marked x ∷ a) b = ap (λ l. x ∷ l) (marks-append a b)
+marks-append (_ ∷ a) b = marks-append a b
+
+pub marks-reverse : (ns : List Run.Note) → Run.marks (reverse ns) ≡ reverse (Run.marks ns)
+marks-reverse [] = refl
+marks-reverse (Run.marked x ∷ ns) =
+    ap Run.marks (reverse-cons (Run.marked x) ns) ∙ marks-append (reverse ns) (Run.marked x ∷ [])
+    ∙ ap (λ l. l ++ x ∷ []) (marks-reverse ns) ∙ sym (reverse-cons x (Run.marks ns))
+marks-reverse (n ∷ ns) =
+    ap Run.marks (reverse-cons n ns) ∙ marks-append (reverse ns) (n ∷ []) ∙ append_nil _ ∙ marks-reverse ns
 
 site_list-append : (xs ys : List Entry) → site_list (xs ++ ys) ≡ site_list xs ++ site_list ys
 site_list-append [] ys = refl
@@ -171,3 +187,78 @@ module _ (choices : List Bool) where
           subst (λ l. KeepsTails l (entered_in (run v.0)))
               (sym (entries-reverse (eval n).notes)) (tails-reverse _ _ v.1.noted.tails),
         )
+
+-- Costs, where no reference is bound: no message is passed over.
+
+sub_binaries-append : (a b : List Run.Note) → Run.sub_binaries (a ++ b) ≡ Run.sub_binaries a + Run.sub_binaries b
+sub_binaries-append [] b = omega arith
+sub_binaries-append (Run.cut n ∷ a) b =
+    let e : Run.sub_binaries (a ++ b) ≡ Run.sub_binaries a + Run.sub_binaries b = sub_binaries-append a b in
+    omega (arith, e)
+sub_binaries-append (_ ∷ a) b = sub_binaries-append a b
+
+sub_binaries-reverse : (ns : List Run.Note) → Run.sub_binaries (reverse ns) ≡ Run.sub_binaries ns
+sub_binaries-reverse [] = refl
+sub_binaries-reverse (Run.cut n ∷ ns) =
+    let e : Run.sub_binaries (reverse ns) ≡ Run.sub_binaries ns = sub_binaries-reverse ns in
+    ap Run.sub_binaries (reverse-cons (Run.cut n) ns) ∙ sub_binaries-append (reverse ns) (Run.cut n ∷ [])
+    ∙ omega (arith, e)
+sub_binaries-reverse (n ∷ ns) =
+    let e : Run.sub_binaries (reverse ns) ≡ Run.sub_binaries ns = sub_binaries-reverse ns in
+    ap Run.sub_binaries (reverse-cons n ns) ∙ sub_binaries-append (reverse ns) (n ∷ []) ∙ omega (arith, e)
+
+serials-append : (xs ys : List Looked)
+    → map (λ l. l.serial) (xs ++ ys) ≡ map (λ l. l.serial) xs ++ map (λ l. l.serial) ys
+serials-append [] ys = refl
+serials-append (x ∷ xs) ys = ap (λ l. x.serial ∷ l) (serials-append xs ys)
+
+serials-reverse : (xs : List Looked) → map (λ l. l.serial) (reverse xs) ≡ reverse (map (λ l. l.serial) xs)
+serials-reverse [] = refl
+serials-reverse (x ∷ xs) =
+    ap (λ z. map (λ l. l.serial) z) (reverse-cons x xs) ∙ serials-append (reverse xs) (x ∷ [])
+    ∙ ap (λ l. l ++ x.serial ∷ []) (serials-reverse xs) ∙ sym (reverse-cons x.serial (map (λ l. l.serial) xs))
+
+not_below : (n : ℕ) → ltb n 0 ≡ false
+not_below n = grind arith
+
+all_examined : (ns : List Run.Note) (cs : List Bool) → Run.marks ns ≡ []
+    → examined ns (record { bound = []; choices = cs; low = 0 }) ≡ map (λ l. l.serial) (Run.looks ns)
+unfolding examined after_note serial_of used
+all_examined [] cs e = refl
+all_examined (Run.happened h ∷ ns) cs e = all_examined ns cs e
+all_examined (Run.entered x ∷ ns) cs e = all_examined ns cs e
+all_examined (Run.looked l ∷ ns) cs e =
+    ap (λ b. if b then examined ns (record { bound = []; choices = cs; low = 0 })
+    else l.serial ∷ examined ns (record { bound = []; choices = cs; low = 0 })) (not_below l.serial)
+    ∙ ap (λ z. l.serial ∷ z) (all_examined ns cs e)
+all_examined (Run.marked x ∷ ns) cs e = absurd cc
+all_examined (Run.began None ∷ ns) cs e = all_examined ns cs e
+all_examined (Run.began (Some r) ∷ ns) cs e = all_examined ns cs e
+all_examined (Run.cut n ∷ ns) cs e = all_examined ns cs e
+
+leaves_none : (ls : List Looked) → LeavesOut ls (map (λ l. l.serial) ls)
+leaves_none [] = tt
+leaves_none (l ∷ ls) = inl (refl, leaves_none ls)
+
+module _ (choices : List Bool) where
+  costs_kept : (r : Ran) (e : Meant) → CostsNoted e.notes r.log → (ordered choices e).marks ≡ []
+      → Said.Costs r (ordered choices e)
+  costs_kept r e w unmarked = record {
+    examined = ap reverse w.looked ∙ sym (serials-reverse (Run.looks e.notes))
+        ∙ ap (λ z. map (λ l. l.serial) z) (sym (looks-reverse e.notes))
+        ∙ sym (all_examined (reverse e.notes) choices unmarked);
+    passed = subst (λ z. LeavesOut (Run.looks (reverse e.notes)) z)
+        (sym (all_examined (reverse e.notes) choices unmarked)) (leaves_none (Run.looks (reverse e.notes)));
+    subs = let q : Run.sub_binaries (reverse e.notes) ≡ Run.sub_binaries e.notes = sub_binaries-reverse e.notes in
+        omega (arith, w.subs, q);
+  }
+
+  pub costs_said : (run : ℕ → Ran) (eval : ℕ → Meant)
+      → ((n : ℕ) → (k : ℕ) × Reaches (run k) (eval n) × CostsNoted (eval n).notes (run k).log)
+      → ((n : ℕ) → (ordered choices (eval n)).marks ≡ [])
+      → Said.FollowsCosts run (λ n. ordered choices (eval n))
+  costs_said run eval w unmarked n = (
+    (w n).0,
+    reaches_said choices _ _ (w n).1,
+    costs_kept (run (w n).0) (eval n) (w n).2 (unmarked n),
+  )

@@ -1,5 +1,5 @@
 -- Calls of the module's own functions, under what holds at each entry and return.
-use Rattle.std.proofs.Common.{◌≡◌, ◌≤◌, ℕ, List, [], ◌∷◌, length, slice_get, eqb, eqb→eq, true, false, Option, Some, None, refl, sym, ap, subst, arith}
+use Rattle.std.proofs.Common.{◌≡◌, ◌≤◌, ℕ, List, [], ◌∷◌, length, slice_get, eqb, eqb→eq, true, false, Option, Some, None, refl, sym, ap, ◌∙◌, subst, arith}
 use Rattle.erl_term.specs.Term.{Term}
 use Rattle.erl_term.specs.Terms.{Values}
 use Rattle.world_model.specs.Run.{State, M, going_on}
@@ -31,6 +31,31 @@ holds_ready own s m is cs f a h = record {
   save = refl;
   window = refl;
   landing = refl;
+}
+
+-- a machine at the entry of a function with this code
+pub entry_ready : (a : AsmModule) (own : Term) (n : ℕ) (vs : Values) (is : List Insn) (above : List Activation)
+    (m : Machine) (s : State) (e : AtEntry a n vs above m) → Holds own s m → e.function.code ≡ is
+    → m ≡ ready is (cells vs) None above m
+entry_ready a own n vs is above m s e h c = λ i. record m {
+  xs = e.xs i;
+  frame = e.frame i;
+  callers = e.callers i;
+  save = h.save i;
+  window = h.window i;
+  code = (e.code ∙ c) i;
+  landing = h.landing i;
+}
+
+-- and with what it notes
+pub ready_matches : (a : AsmModule) (own : Term) (s : State) (m : Machine) (is : List Insn) (cs : List Cell)
+    (f : Option (List Cell)) (above : List Activation) (rs : List Reply) (log : List Steps.Event)
+    → Matches (target a own) s m rs log → Matches (target a own) s (ready is cs f above m) rs log
+ready_matches a own s m is cs f above rs log w = record {
+  replies = w.replies;
+  noted = w.noted;
+  costs = w.costs;
+  mailbox = holds_ready own s m is cs f above w.mailbox;
 }
 
 module _ (a : AsmModule) (own : Term) (l s : ℕ) (f : AsmFun) (vs : Values) (found : entry_at a.funs l 0 ≡ Some (s, f))
@@ -68,7 +93,12 @@ module _ (a : AsmModule) (own : Term) (l s : ℕ) (f : AsmFun) (vs : Values) (fo
     call_only_realizes =
         call_enters (target a own) d s true true (λ e. e) here vs above _ _ rs log st all le only_step
         (entry_is above (record (ready f.code [] None above m) { room = 0 }))
-        (record { replies = w.replies; noted = w.noted; mailbox = holds_ready own st m _ _ _ _ w.mailbox })
+        (record {
+          replies = w.replies;
+          noted = w.noted;
+          costs = w.costs;
+          mailbox = holds_ready own st m _ _ _ _ w.mailbox;
+        })
         (λ u h. record {
           own = h.own;
           mailbox = h.mailbox;
@@ -102,7 +132,12 @@ module _ (a : AsmModule) (own : Term) (l s : ℕ) (f : AsmFun) (vs : Values) (fo
       called =
           call_enters (target a own) d s false false (λ e. e) here vs (waiting ∷ above) _ _ rs log st all le call_step
           (entry_is (waiting ∷ above) (record (ready f.code [] None above m) { room = 0 }))
-          (record { replies = w.replies; noted = w.noted; mailbox = holds_ready own st m _ _ _ _ w.mailbox })
+          (record {
+            replies = w.replies;
+            noted = w.noted;
+            costs = w.costs;
+            mailbox = holds_ready own st m _ _ _ _ w.mailbox;
+          })
           (λ u h. record {
             own = h.own;
             mailbox = h.mailbox;

@@ -198,8 +198,7 @@ unfolding script evaluated
 is_called = record {
   exported = (0, omega arith, refl);
   arity = refl;
-  arguments = nothing _;
-  script = record { own = (1, refl); mailbox = nothing _; replies = nothing _ };
+  own = (1, refl);
   fresh = λ n. nothing _;
 }
 

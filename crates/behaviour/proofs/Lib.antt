@@ -6,7 +6,6 @@ pub mod Modules
 pub mod Calling
 pub mod Small
 mod Controls
-mod Simple
 mod Keys
 mod PlainRuns
 mod PlainMeaning

@@ -7,20 +7,21 @@ use Rattle.erl_base.specs.declared.ids.Place.{Place}
 use Rattle.erl_term.specs.Term as T
 use Rattle.erl_term.specs.Term.{Term}
 use Rattle.erl_term.specs.Terms.{Values}
-use Rattle.world_model.specs.Run.{give}
+use Rattle.world_model.specs.Run.{State, M, give}
 use Rattle.world_model.specs.Meaning.{as_values, single, one}
 use Rattle.core_form.specs.declared.tree.Binder.{Binder}
-use Rattle.core_form.specs.Core.{Expr, literal, var, fun, Defs, no_def, and_def, def}
-use Rattle.core_form.specs.Scope.{Scope, variable, function, binding, function_of, with_names, numbers_from, names_of, body_of}
+use Rattle.core_form.specs.Core.{Module, Expr, literal, var, fun, Defs, no_def, and_def, def}
+use Rattle.core_form.specs.Scope.{Scope, variable, function, binding, function_of, with_names, numbers_from, names_of, params_of, body_of}
 use Rattle.core_form.specs.Captures.{sites_in}
-use Rattle.core_form.specs.Sites.{Site, named_site, module_scope, own_sites}
+use Rattle.core_form.specs.Sites.{named_site, sites, module_scope, def_count, own_sites, inner_sites, module_sites}
+use Rattle.pass_contract.specs.PassContract.{undef}
 use Rattle.core_meaning.specs.Calls.{Invocation}
 use Rattle.core_meaning.specs.EvaluationContext.{EvaluationContext, held, holding, value_of}
 use Rattle.core_meaning.specs.Evaluation.{eval}
 use Rattle.core_meaning.specs.CoreRun.{run_site}
 use Rattle.behaviour.specs.PlainModules.{PlainBody, number, atom, parameter, PlainFun, later_place, parameter_place, as_parameter, plain_body, with_key, plain_fun, both_plain, plain_funs}
 use Rattle.behaviour.proofs.Keys.{and_true, or_false, same_key_is, same_key_itself, other_key, keys_differ, some_is}
-use Rattle.behaviour.proofs.PlainRuns.{given, Found}
+use Rattle.behaviour.proofs.PlainRuns.{given, end_given, plain_end, plain_end_is, AllGiven, Found}
 
 -- Definitions one by one.
 
@@ -153,15 +154,6 @@ value_held : (c : EvaluationContext) (x : Name) (o : Option ℕ) (n : ℕ) → b
     → value_of c x ≡ held c.env n
 value_held c x o n e = ap (λ z. elim z [ None ↦ None | Some k ↦ held c.env k ]) e
 
-as_some : (o : Option ℕ) (b : PlainBody) (j : ℕ) → as_parameter o ≡ Some b → b ≡ parameter j → o ≡ Some j
-as_some None b j q p = absurd cc
-as_some (Some i) b j q p =
-    let e : parameter i ≡ parameter j = some_is (parameter i) b q ∙ p in ap (λ z. Some (place z)) e
-  where
-    place : PlainBody → ℕ
-    place (parameter k) = k
-    place _ = i
-
 module _ (here : Invocation) (g : Scope) (bs : List Binder) (ms : List ℕ) (vs : Values) (k : ℕ) where
   var_gives : (p : Place) (x : Name) (j : ℕ) (t : Term) → parameter_place x bs ≡ Some j → slice_get vs j ≡ Some t
       → eval here (var p x) (at_body g bs ms vs k) ≡ single t
@@ -202,20 +194,107 @@ site_gives here p f e g n vs h t w l q =
     (if_true _ _ _ _ (eq-eqb (length vs) (length w.params + 0) (omega (arith, l, w.arity)))
     (ap (λ m. one m give) (body_gives here g w.params [] vs n w.body h.body t w.plain q)))
 
--- The definitions of a module.
+-- with as many arguments as its arity says, it gives a term
+get_below : (vs : Values) (j : ℕ) → j < length vs → (t : Term) × (slice_get vs j ≡ Some t)
+get_below [] j l = absurd (omega (arith, l))
+get_below (v ∷ vs) zero l = (v, refl)
+get_below (v ∷ vs) (suc j) l = get_below vs j (omega (arith, l))
 
-pub found_site : (ds : Defs) (hs : List PlainFun) (f : FunKey) (i : ℕ) (h : PlainFun) (g : Scope) (k : ℕ)
-    (rest : List Site) (vs : Values) (t : Term) →
-    IsPlain ds hs → Found hs f i h → length vs ≡ f.arity → given h.body vs ≡ Some t → (here : Invocation)
-    → run_site here (slice_get (own_sites ds g k ++ rest) i) vs ≡ give t
-found_site no_def [] f i h g k rest vs t a w l q here = absurd w
-found_site no_def (h0 ∷ hs) f i h g k rest vs t a w l q here = absurd a
-found_site (and_def d ds) [] f i h g k rest vs t a w l q here = absurd a
-found_site (and_def (def p f0 e) ds) (h0 ∷ hs) f zero h g k rest vs t a w l q here =
-    let d = fun_is f0 e h0 a.0 in
-    site_gives here p f0 e g k vs h0 t d (l ∙ ap (λ z. z.arity) (sym w.1 ∙ d.key)) (ap (λ z. given z.body vs) w.0 ∙ q)
-found_site (and_def (def p f0 e) ds) (h0 ∷ hs) f (suc i) h g k rest vs t a w l q here =
-    found_site ds hs f i h g (k + sites_in (body_of e)) rest vs t a.1 w.1 l q here
+place_given : (x : Name) (bs : List Binder) (vs : Values) (o : Option ℕ) (b : PlainBody) → parameter_place x bs ≡ o
+    → as_parameter o ≡ Some b → length vs ≡ length bs → (t : Term) × (given b vs ≡ Some t)
+place_given x bs vs None b e a l = absurd cc
+place_given x bs vs (Some j) b e a l =
+    let w = get_below vs j (omega (arith, place_below x bs j e, l)) in
+    (w.0, ap (λ z. given z vs) (sym (some_is (parameter j) b a)) ∙ w.1)
+
+body_given : (bs : List Binder) (e : Expr) (b : PlainBody) (vs : Values) → plain_body bs e ≡ Some b
+    → length vs ≡ length bs → (t : Term) × (given b vs ≡ Some t)
+body_given bs (literal p (T.int z)) b vs a l = (T.int z, ap (λ c. given c vs) (sym (some_is (number z) b a)))
+body_given bs (literal p (T.atom c)) b vs a l = (T.atom c, ap (λ d. given d vs) (sym (some_is (atom c) b a)))
+body_given bs (literal p _) b vs a l = absurd cc
+body_given bs (var p x) b vs a l = place_given x bs vs (parameter_place x bs) b refl a l
+body_given bs _ b vs a l = absurd cc
+
+-- with any terms
+site_does : (here : Invocation) (p : Place) (f : FunKey) (e : Expr) (g : Scope) (n : ℕ) (vs : Values) (h : PlainFun)
+    (s : State) → IsPlainFun f e h
+    → run_site here (Some (named_site p f e g [] n)) vs s ≡ (s, plain_end (Some h) vs)
+unfolding run_site
+site_does here p f e g n vs h s w = by (eqb (length vs) h.key.arity) refl
+  where
+    arity_is : h.key.arity ≡ length w.params
+    arity_is = ap (λ k. k.arity) w.key ∙ w.arity
+
+    if_false : {A : Type 0} (b : Bool) (m k : M A) → b ≡ false → (if b then m else k) s ≡ k s
+    if_false true m k q = absurd cc
+    if_false false m k q = refl
+
+    by : (b : Bool) → eqb (length vs) h.key.arity ≡ b
+        → run_site here (Some (named_site p f e g [] n)) vs s ≡ (s, plain_end (Some h) vs)
+    by true q =
+        let l : length vs ≡ h.key.arity = eqb-true (length vs) h.key.arity q in
+        let v : (t : Term) × (given h.body vs ≡ Some t) =
+        body_given w.params w.body h.body vs w.plain (l ∙ arity_is) in
+        ap (λ (m : M Term). m s) (site_gives here p f e g n vs h v.0 w (l ∙ ap (λ k. k.arity) w.key) v.1)
+        ∙ ap (λ o. (s, o)) (sym (plain_end_is h vs v.0 l v.1))
+    by false q =
+        subst (λ z. run_site here (Some (named_site p f z g [] n)) vs s ≡ (s, plain_end (Some h) vs)) (sym w.is)
+        (if_false _ _ _ (ap (λ k. eqb (length vs) k) (omega (arith, arity_is)) ∙ q)
+        ∙ ap (λ b. (s, if b then end_given (given h.body vs) else undef)) (sym q))
+
+-- The definitions of a module, which have no other functions in them.
+
+own_does : (ds : Defs) (hs : List PlainFun) (g : Scope) (k n : ℕ) (vs : Values) (s : State) (here : Invocation)
+    → IsPlain ds hs → run_site here (slice_get (own_sites ds g k) n) vs s ≡ (s, plain_end (slice_get hs n) vs)
+unfolding run_site
+own_does no_def [] g k n vs s here a = refl
+own_does no_def (h ∷ hs) g k n vs s here a = absurd a
+own_does (and_def d ds) [] g k n vs s here a = absurd a
+own_does (and_def (def p f e) ds) (h ∷ hs) g k zero vs s here a = site_does here p f e g k vs h s (fun_is f e h a.0)
+own_does (and_def (def p f e) ds) (h ∷ hs) g k (suc n) vs s here a =
+    own_does ds hs g (k + sites_in (body_of e)) n vs s here a.1
+
+no_sites : (bs : List Binder) (e : Expr) (b : PlainBody) (g : Scope) (k : ℕ) → plain_body bs e ≡ Some b
+    → sites e g k ≡ []
+no_sites bs (literal p t) b g k q = refl
+no_sites bs (var p x) b g k q = refl
+no_sites bs _ b g k q = absurd cc
+
+inner_none : (ds : Defs) (hs : List PlainFun) (g : Scope) (k : ℕ) → IsPlain ds hs → inner_sites ds g k ≡ []
+inner_none no_def hs g k a = refl
+inner_none (and_def d ds) [] g k a = absurd a
+inner_none (and_def (def p f e) ds) (h ∷ hs) g k a =
+    let w : IsPlainFun f e h = fun_is f e h a.0 in
+    ap (λ l. l ++ inner_sites ds g (k + sites_in (body_of e)))
+    (subst (λ z. sites (body_of z) (with_names g (names_of (params_of z))) k ≡ []) (sym w.is)
+    (no_sites w.params w.body h.body (with_names g (names_of w.params)) k w.plain))
+    ∙ inner_none ds hs g (k + sites_in (body_of e)) a.1
+
+append_none : {A : Type 0} (xs ys : List A) → ys ≡ [] → xs ++ ys ≡ xs
+append_none [] ys e = e
+append_none (x ∷ xs) ys e = ap (λ l. x ∷ l) (append_none xs ys e)
+
+pub module_does : (m : Module) (hs : List PlainFun) (n : ℕ) (vs : Values) (s : State) (here : Invocation)
+    → IsPlain m.defs hs → run_site here (slice_get (module_sites m) n) vs s ≡ (s, plain_end (slice_get hs n) vs)
+module_does m hs n vs s here a =
+    let g : Scope = module_scope m.defs 0 [] in
+    ap (λ l. run_site here (slice_get l n) vs s)
+    (append_none (own_sites m.defs g (def_count m.defs)) (inner_sites m.defs g (def_count m.defs))
+    (inner_none m.defs hs g (def_count m.defs) a))
+    ∙ own_does m.defs hs g (def_count m.defs) n vs s here a
+
+-- each function has a value for its parameters
+pub all_given : (ds : Defs) (hs : List PlainFun) → IsPlain ds hs → AllGiven hs
+all_given no_def [] a n h vs e l = absurd cc
+all_given no_def (h0 ∷ hs) a n h vs e l = absurd a
+all_given (and_def d ds) [] a n h vs e l = absurd a
+all_given (and_def (def p f e) ds) (h0 ∷ hs) a zero h vs q l =
+    let w : IsPlainFun f e h0 = fun_is f e h0 a.0 in
+    let z : h0 ≡ h = some_is h0 h q in
+    let v : (t : Term) × (given h0.body vs ≡ Some t) = body_given w.params w.body h0.body vs w.plain
+    (l ∙ ap (λ y. y.key.arity) (sym z) ∙ ap (λ k. k.arity) w.key ∙ w.arity) in
+    (v.0, ap (λ y. given y.body vs) (sym z) ∙ v.1)
+all_given (and_def (def p f e) ds) (h0 ∷ hs) a (suc n) h vs q l = all_given ds hs a.1 n h vs q l
 
 -- A name means the one function that has it.
 
@@ -263,35 +342,3 @@ pub key_found : (hs : List PlainFun) (f : FunKey) → is_key f (map (λ z. z.key
     × Found hs f i h
 key_found [] f q = absurd cc
 key_found (h ∷ hs) f q = found_after f h hs (same_key f h.key) refl (key_found hs f) q
-
--- with as many arguments as its arity says, it gives a term
-get_below : (vs : Values) (j : ℕ) → j < length vs → (t : Term) × (slice_get vs j ≡ Some t)
-get_below [] j l = absurd (omega (arith, l))
-get_below (v ∷ vs) zero l = (v, refl)
-get_below (v ∷ vs) (suc j) l = get_below vs j (omega (arith, l))
-
-place_given : (x : Name) (bs : List Binder) (vs : Values) (o : Option ℕ) (b : PlainBody) → parameter_place x bs ≡ o
-    → as_parameter o ≡ Some b → length vs ≡ length bs → (t : Term) × (given b vs ≡ Some t)
-place_given x bs vs None b e a l = absurd cc
-place_given x bs vs (Some j) b e a l =
-    let w = get_below vs j (omega (arith, place_below x bs j e, l)) in
-    (w.0, ap (λ z. given z vs) (sym (some_is (parameter j) b a)) ∙ w.1)
-
-body_given : (bs : List Binder) (e : Expr) (b : PlainBody) (vs : Values) → plain_body bs e ≡ Some b
-    → length vs ≡ length bs → (t : Term) × (given b vs ≡ Some t)
-body_given bs (literal p (T.int z)) b vs a l = (T.int z, ap (λ c. given c vs) (sym (some_is (number z) b a)))
-body_given bs (literal p (T.atom c)) b vs a l = (T.atom c, ap (λ d. given d vs) (sym (some_is (atom c) b a)))
-body_given bs (literal p _) b vs a l = absurd cc
-body_given bs (var p x) b vs a l = place_given x bs vs (parameter_place x bs) b refl a l
-body_given bs _ b vs a l = absurd cc
-
-pub found_given : (ds : Defs) (hs : List PlainFun) (f : FunKey) (i : ℕ) (h : PlainFun) (vs : Values) → IsPlain ds hs
-    → Found hs f i h → length vs ≡ f.arity → (t : Term) × (given h.body vs ≡ Some t)
-found_given no_def [] f i h vs a w l = absurd w
-found_given no_def (h0 ∷ hs) f i h vs a w l = absurd a
-found_given (and_def d ds) [] f i h vs a w l = absurd a
-found_given (and_def (def p f0 e) ds) (h0 ∷ hs) f zero h vs a w l =
-    let k = fun_is f0 e h0 a.0 in
-    let v = body_given k.params k.body h0.body vs k.plain (l ∙ ap (λ z. z.arity) (sym w.1 ∙ k.key) ∙ k.arity) in
-    (v.0, ap (λ z. given z.body vs) (sym w.0) ∙ v.1)
-found_given (and_def (def p f0 e) ds) (h0 ∷ hs) f (suc i) h vs a w l = found_given ds hs f i h vs a.1 w.1 l

@@ -55,6 +55,7 @@ module _ (t : Target) where
     log' = w.log';
     stops = ap (λ y. perform y (run t.step w.steps) rs log) e ∙ w.stops;
     noted = w.noted;
+    costs = w.costs;
     site = w.site;
     enters = ap (λ y. sites (perform y (run t.step (suc w.steps)) rs log).log) e ∙ w.enters;
   }
@@ -87,6 +88,7 @@ module _ (t : Target) where
         log' = log;
         stops = stop;
         noted = w.noted;
+        costs = w.costs;
         site = site;
         enters = enter;
       }
@@ -105,6 +107,7 @@ module _ (t : Target) where
               tails = (keeps, w.noted.tails);
               looked = w.noted.looked;
             };
+            costs = record { looked = w.costs.looked; subs = w.costs.subs };
             mailbox = same _ (free k _ w.mailbox);
           }))
 
@@ -134,6 +137,7 @@ module _ (t : Target) where
     log' = w.log';
     stops = c.then_same w.steps ∙ w.stops;
     noted = w.noted;
+    costs = w.costs;
     site = w.site;
     enters = ap (λ j. sites (run t.step j m rs log).log) (sym (up-suc c.steps (suc w.steps)))
         ∙ ap (λ r. sites r.log) (c.then_same (suc w.steps)) ∙ w.enters;

@@ -1,5 +1,5 @@
 -- Functions that give a literal, realized by their code.
-use Rattle.std.proofs.Common.{◌≡◌, ℕ, zero, suc, List, [], ◌∷◌, slice_get, Some, None, refl, sym, ◌∙◌, subst}
+use Rattle.std.proofs.Common.{◌≡◌, ℕ, zero, suc, List, [], ◌∷◌, slice_get, Some, None, refl, sym, subst}
 use Rattle.erl_base.specs.Names.{Name}
 use Rattle.erl_term.specs.Term.{Term}
 use Rattle.erl_term.specs.Terms.{Values}
@@ -15,15 +15,12 @@ use Rattle.beam_table.specs.MachineState.{Cell, Activation, Machine, unset}
 use Rattle.pass_contract.specs.Lawful.{IsLawful}
 use Rattle.pass_contract.specs.PassContract.{at_once, IsMeaning}
 use Rattle.pass_contract.proofs.Modules.{lawful_itself}
-use Rattle.behaviour.specs.MachineTarget.{AtEntry, Holds, target}
+use Rattle.behaviour.proofs.Calling.{ready, entry_ready, ready_matches}
+use Rattle.behaviour.specs.MachineTarget.{AtEntry, target}
 use Rattle.behaviour.specs.Realizes.{Comes, Matches, Realizes, RunsRealized}
 
 abbrev pub code : Term → List Insn
 code t = move (Source.literal t) (Reg.x_reg 0) ∷ return ∷ []
-
--- a machine with this code, X registers and activations, outside a window, and with what it has beside them
-abbrev placed : List Insn → List Cell → List Activation → Machine → Machine
-placed is cs a m = record m { xs = cs; frame = None; callers = a; save = 0; window = None; code = is; landing = None }
 
 abbrev pub bodies : Term → Bodies
 bodies t n here vs = give t
@@ -31,46 +28,24 @@ bodies t n here vs = give t
 module _ (a : AsmModule) (t : Term) (own : Term)
     (all : (n : ℕ) (f : AsmFun) → slice_get a.funs n ≡ Some f → f.code ≡ code t) where
   returned : (vs : Values) (above : List Activation) (m : Machine) (rs : List Reply) (log : List Event) →
-      Comes (target a own) (placed (code t) (cells vs) above m) rs log
-      (returns_to above t (placed [] (with_cell unset 0 (Cell.term t) (cells vs)) above m)) rs log
+      Comes (target a own) (ready (code t) (cells vs) None above m) rs log
+      (returns_to above t (ready [] (with_cell unset 0 (Cell.term t) (cells vs)) None above m)) rs log
   unfolding step Rattle.step_machine.specs.Steps.run
   returned [] above m rs log = record { steps = 1; then_same = λ k. refl }
   returned (v ∷ vs) above m rs log = record { steps = 1; then_same = λ k. refl }
-
-  is_placed : (n : ℕ) (vs : Values) (above : List Activation) (m : Machine) (s : State) → AtEntry a n vs above m
-      → Holds own s m → m ≡ placed (code t) (cells vs) above m
-  is_placed n vs above m s e h = λ i. record m {
-    xs = e.xs i;
-    frame = e.frame i;
-    callers = e.callers i;
-    save = h.save i;
-    window = h.window i;
-    code = (e.code ∙ all n e.function e.found) i;
-    landing = h.landing i;
-  }
 
   given : (n : ℕ) (vs : Values) (above : List Activation) (m : Machine) (rs : List Reply) (log : List Event) (s : State)
       → AtEntry a n vs above m → Matches (target a own) s m rs log
       → Realizes (target a own) above m rs log (s, gives t)
   given n vs above m rs log s e w = record {
-    state = placed [] (with_cell unset 0 (Cell.term t) (cells vs)) above m;
+    state = ready [] (with_cell unset 0 (Cell.term t) (cells vs)) None above m;
     rs' = rs;
     log' = log;
-    matches = record {
-      replies = w.replies;
-      noted = w.noted;
-      mailbox = record {
-        own = w.mailbox.own;
-        mailbox = w.mailbox.mailbox;
-        next_serial = w.mailbox.next_serial;
-        save = refl;
-        window = refl;
-        landing = refl;
-      };
-    };
+    matches = ready_matches a own s m [] (with_cell unset 0 (Cell.term t) (cells vs)) None above rs log w;
     comes = subst (λ z. Comes (target a own) z rs log
-        (returns_to above t (placed [] (with_cell unset 0 (Cell.term t) (cells vs)) above m)) rs log)
-        (sym (is_placed n vs above m s e w.mailbox)) (returned vs above m rs log);
+        (returns_to above t (ready [] (with_cell unset 0 (Cell.term t) (cells vs)) None above m)) rs log)
+        (sym (entry_ready a own n vs (code t) above m s e w.mailbox (all n e.function e.found)))
+        (returned vs above m rs log);
   }
 
   some_is : (x y : State × Outcome Term) → Some x ≡ Some y → x ≡ y

@@ -1,5 +1,5 @@
 -- From functions that are realized to a run that follows, one way, a meaning which the functions' meaning shows.
-use Rattle.std.proofs.Common.{◌≡◌, ◌≤◌, ℕ, suc, List, [], ◌∷◌, length, Bool, true, false, refl, sym, ap, ◌∙◌, subst, arith}
+use Rattle.std.proofs.Common.{◌≡◌, ◌≤◌, ℕ, suc, List, [], ◌∷◌, length, map, Bool, true, false, refl, sym, ap, ◌∙◌, subst, arith}
 use Rattle.erl_base.specs.Names.{Name}
 use Rattle.erl_term.specs.Term.{Term, Class}
 use Rattle.erl_term.specs.Terms.{Values}
@@ -13,8 +13,8 @@ use Rattle.pass_contract.specs.SameRun.{done, if_compared}
 use Rattle.pass_contract.specs.PassContract as Pass
 use Rattle.pass_contract.specs.PassContract.{IsMeaning}
 use Rattle.behaviour.proofs.Realizing.{realized}
-use Rattle.behaviour.specs.Realizes.{Target, Matches, To, Realizes, RunsRealized}
-use Rattle.behaviour.specs.FunctionsGiveModule.{Shown, SameResultsShow}
+use Rattle.behaviour.specs.Realizes.{CostsNoted, Target, Matches, To, Realizes, RunsRealized}
+use Rattle.behaviour.specs.FunctionsGiveModule.{Shown, ShowsCosts, SameResultsShow}
 
 abbrev pub meant : State × Outcome Term → Meant
 meant r = record { notes = r.0.notes; end = r.1 }
@@ -88,11 +88,22 @@ module _ (b : Bool) where
         looked = subst (λ z. LeavesOut z (Steps.serials log)) l w.looked;
       }
 
+  costs_as_done : (ns ms : List Note) (log : List Event) → done b ms ≡ done b ns
+      → Run.sub_binaries ms ≤ Run.sub_binaries ns → CostsNoted ms log → CostsNoted ns log
+  costs_as_done ns ms log e l w = record {
+    looked = w.looked
+        ∙ ap (λ z. map (λ x. x.serial) z) (sym (looked_done ms) ∙ ap Run.looks e ∙ looked_done ns);
+    subs = omega (arith, w.subs, l);
+  }
+
 pub same_results_show : SameResultsShow
-same_results_show w old new h = record {
-  noted = λ log z. noted_as_done w.marks old.0.notes new.0.notes log h.state.done z;
-  end = h.end;
-}
+same_results_show w old new h = (
+  record {
+    noted = λ log z. noted_as_done w.marks old.0.notes new.0.notes log h.state.done z;
+    end = h.end;
+  },
+  λ c log z. costs_as_done w.marks old.0.notes new.0.notes log h.state.done (h.state.sub_binaries c) z,
+)
 
 pub shown_itself : (r : State × Outcome Term) → Shown r r
 shown_itself r = record { noted = λ log z. z; end = refl }
@@ -111,7 +122,8 @@ module _ (t : Target) (name : Name) (own : Term) (runs : ℕ → Pass.Run) (mean
   ran_to k = run t.step k m0 rs0 []
 
   abbrev Reached : State × Outcome Term → Type 0
-  Reached r = (k : ℕ) × Reaches (ran_to k) (meant r) × Next ran_to k (meant r).end
+  Reached r =
+      (k : ℕ) × Reaches (ran_to k) (meant r) × Next ran_to k (meant r).end × CostsNoted r.0.notes (ran_to k).log
 
   over_at : (s : State) (x : t.state → Steps.Stepped t.state) (o : Outcome Term) (w : To t m0 rs0 [] s x)
       → x w.state ≡ ends o → ran_to (up w.comes.steps 1) ≡ ran w.log' (over o)
@@ -124,52 +136,62 @@ module _ (t : Target) (name : Name) (own : Term) (runs : ℕ → Pass.Run) (mean
     end = subst (λ z. EndsAs z.end e.end) (sym p) x;
   }
 
+  costs_with : (r r' : Ran) (ns : List Note) → r ≡ r' → CostsNoted ns r'.log → CostsNoted ns r.log
+  costs_with r r' ns p n = subst (λ z. CostsNoted ns z.log) (sym p) n
+
+  -- where the step that the run comes to ends it
+  ended : (s : State) (x : t.state → Steps.Stepped t.state) (o : Outcome Term) (w : To t m0 rs0 [] s x)
+      → x w.state ≡ ends o → EndsAs (over o) o → Next ran_to (up w.comes.steps 1) o → Reached (s, o)
+  ended s x o w e z y = (
+    up w.comes.steps 1,
+    reaches_with _ _ _ (over_at s x o w e) w.matches.noted z,
+    y,
+    costs_with _ _ _ (over_at s x o w e) w.matches.costs,
+  )
+
   reached : (r : State × Outcome Term) → Realizes t bottom m0 rs0 [] r → Reached r
-  reached (s, gives ws) w = (
-    up w.comes.steps 1,
-    reaches_with _ _ _
-        (over_at s (t.returns bottom ws) (gives ws) w (ret _ _)) w.matches.noted refl,
-    tt,
-  )
-  reached (s, raises c x) w = (
-    up w.comes.steps 1,
-    reaches_with _ _ _
-        (over_at s (t.unwinds bottom c x) (raises c x) w (unw _ _ _)) w.matches.noted refl,
-    tt,
-  )
-  reached (s, waits q) w = (
-    up w.comes.steps 1,
-    reaches_with _ _ _ (over_at s (λ _. ends (waits q)) (waits q) w refl) w.matches.noted refl,
-    tt,
-  )
+  reached (s, gives ws) w = ended s (t.returns bottom ws) (gives ws) w (ret _ _) refl tt
+  reached (s, raises c x) w = ended s (t.unwinds bottom c x) (raises c x) w (unw _ _ _) refl tt
+  reached (s, waits q) w = ended s (λ _. ends (waits q)) (waits q) w refl refl tt
   reached (s, spent) w = (
     w.steps,
     reaches_with _ _ _ w.stops w.noted refl,
     (w.site, w.enters ∙ ap (λ l. w.site ∷ l) (sym (ap (λ r. sites r.log) w.stops))),
+    costs_with _ _ _ w.stops w.costs,
   )
 
-  as_old : (q r : State × Outcome Term) → Shown q r → Reached r → Reached q
-  as_old q r e w = (
-    w.0,
-    record {
-      noted = e.noted (ran_to w.0).log w.1.noted;
-      end = subst (λ o. EndsAs (ran_to w.0).end o) e.end w.1.end;
-    },
-    subst (λ o. Next ran_to w.0 o) e.end w.2,
-  )
+  as_old : (q r : State × Outcome Term) → Shown q r → (w : Reached r) → Reaches (ran_to w.0) (meant q)
+  as_old q r e w = record {
+    noted = e.noted (ran_to w.0).log w.1.noted;
+    end = subst (λ o. EndsAs (ran_to w.0).end o) e.end w.1.end;
+  }
 
   module _ (old : ℕ → State × Outcome Term) (shown : (n : ℕ) → Shown (old n) (meaning (suc n) site vs (start n)))
       (bounded : (n : ℕ) → length (site_list (Run.entries (old n).0.notes)) ≤ n)
       (met : (n : ℕ) → (old n).1 ≡ spent → length (site_list (Run.entries (old n).0.notes)) ≡ n) where
+    comes_to : (n : ℕ) → Reached (meaning (suc n) site vs (start n))
+    comes_to n = reached (meaning (suc n) site vs (start n))
+        (realized t name own runs meaning h means (suc n) site vs bottom m0 rs0 [] (start n)
+        (omega (arith, left_is n)) at (begins n))
+
     pub one_way : OneWay (λ k. run t.step k m0 rs0 []) (λ n. meant (old n))
     one_way = record {
-      reaches = λ n. as_old (old n) (meaning (suc n) site vs (start n)) (shown n)
-          (reached (meaning (suc n) site vs (start n))
-          (realized t name own runs meaning h means (suc n) site vs bottom m0 rs0 [] (start n)
-          (omega (arith, left_is n)) at (begins n)));
+      reaches = λ n. (
+        (comes_to n).0,
+        as_old (old n) (meaning (suc n) site vs (start n)) (shown n) (comes_to n),
+        subst (λ o. Next ran_to (comes_to n).0 o) (shown n).end (comes_to n).2,
+      );
       bounded = bounded;
       met = met;
     }
+
+    pub cheap_way : ((n : ℕ) → ShowsCosts (old n) (meaning (suc n) site vs (start n)))
+        → (n : ℕ) → (k : ℕ) × Reaches (ran_to k) (meant (old n)) × CostsNoted (old n).0.notes (ran_to k).log
+    cheap_way c n = (
+      (comes_to n).0,
+      as_old (old n) (meaning (suc n) site vs (start n)) (shown n) (comes_to n),
+      c n (ran_to (comes_to n).0).log (comes_to n).3,
+    )
 
 pub length_sites : (es : List Run.Entry) → length (site_list es) ≡ length es
 length_sites [] = refl

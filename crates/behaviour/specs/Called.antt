@@ -1,39 +1,23 @@
 -- The calls that same behaviour speaks of.
-use Rattle.std.specs.Prelude.{◌≡◌, ℕ, List, [], ◌∷◌, map, length, All, Contains, IsTrue, if◌then◌else◌}
+use Rattle.std.specs.Prelude.{◌≡◌, ℕ, List, [], ◌∷◌, map, length, Contains, if◌then◌else◌}
 use Rattle.erl_base.specs.Names.{same_key}
 use Rattle.erl_base.specs.declared.ids.FunKey.{FunKey}
 use Rattle.erl_term.specs.Term as T
 use Rattle.erl_term.specs.Term.{Term}
-use Rattle.erl_term.specs.WellFormed.{maps_rise}
-use Rattle.world_model.specs.World.{Reply, Script}
+use Rattle.world_model.specs.World.{Script}
 use Rattle.core_form.specs.Core.{Module}
 use Rattle.core_meaning.specs.FreshReferences.{Fresh}
-
--- the keys of a map rise, so that equal maps are the same
-abbrev pub HasRisingMaps : Term → Type 0
-HasRisingMaps t = IsTrue (maps_rise t)
-
--- what the world may answer
-pub record IsReply (r : Reply) : Type 0 where
-  pub arrivals : All HasRisingMaps r.arrivals
-  pub term : HasRisingMaps r.term
-
--- the own pid is a pid, and all terms are terms of Erlang
-pub record IsScript (x : Script) : Type 0 where
-  pub own : (p : ℕ) × (x.own ≡ T.pid p)
-  pub mailbox : All HasRisingMaps x.mailbox
-  pub replies : All IsReply x.replies
 
 -- the exports of a Core module
 abbrev pub export_keys : Module → List FunKey
 export_keys m = map (λ f. f.key) m.exports
 
--- an export with as many arguments as its arity, and a script whose marking calls return new references
+-- an export with as many arguments as its arity, run by a process, and a script whose marking calls return new
+-- references
 pub record Called (m : Module) (f : FunKey) (vs : List Term) (x : Script) : Type 0 where
   pub exported : Contains (export_keys m) f
   pub arity : length vs ≡ f.arity
-  pub arguments : All HasRisingMaps vs
-  pub script : IsScript x
+  pub own : (p : ℕ) × (x.own ≡ T.pid p)
   pub fresh : Fresh m f vs x
 
 -- the others

@@ -1,15 +1,20 @@
 -- A machine realizes a meaning.
-use Rattle.std.specs.Prelude.{◌≡◌, ◌≤◌, ◌<◌, ℕ, suc, List, ◌∷◌}
+use Rattle.std.specs.Prelude.{◌≡◌, ◌≤◌, ◌<◌, ℕ, suc, List, ◌∷◌, map}
 use Rattle.erl_base.specs.Names.{Name}
 use Rattle.erl_term.specs.Term.{Term, Class}
 use Rattle.erl_term.specs.Terms.{Values}
-use Rattle.world_model.specs.Run.{State, Outcome, gives, raises, waits, spent, M}
+use Rattle.world_model.specs.Run.{Note, looks, sub_binaries, State, Outcome, gives, raises, waits, spent, M}
 use Rattle.world_model.specs.World.{Reply}
 use Rattle.step_machine.specs.Bodies.{here_of}
 use Rattle.pass_contract.specs.Lawful.{IsLawful}
 use Rattle.pass_contract.specs.PassContract.{Run, ComesTo, IsMeaning}
 use Rattle.step_machine.specs.Follows.{Noted}
-use Rattle.step_machine.specs.Steps.{Event, Stepped, ends, ran, unfinished, up, perform, run, sites}
+use Rattle.step_machine.specs.Steps.{Event, Stepped, ends, ran, unfinished, up, perform, run, sites, serials, subs}
+
+-- a log costs what a meaning noted: it looked at the very same messages, and made no more sub-binaries
+pub record CostsNoted (ns : List Note) (log : List Event) : Type 0 where
+  pub looked : serials log ≡ map (λ l. l.serial) (looks ns)
+  pub subs : subs log ≤ sub_binaries ns
 
 -- a machine: its steps; what stands above an activation; when a state is at a function's entry; when it has the
 -- mailbox of a process; and what a return and a raise out of an activation lead to
@@ -27,6 +32,7 @@ module _ (t : Target) where
   pub record Matches (s : State) (m : t.state) (rs : List Reply) (log : List Event) : Type 0 where
     pub replies : rs ≡ s.replies
     pub noted : Noted s.notes log
+    pub costs : CostsNoted s.notes log
     pub mailbox : t.holds s m
 
   -- from m the run comes to a step that leads there, which takes one more step
@@ -50,6 +56,7 @@ module _ (t : Target) where
     pub log' : List Event
     pub stops : run t.step steps m rs log ≡ ran log' unfinished
     pub noted : Noted s.notes log'
+    pub costs : CostsNoted s.notes log'
     pub site : ℕ
     pub enters : sites (run t.step (suc steps) m rs log).log ≡ site ∷ sites log'
 

@@ -1,4 +1,4 @@
-ghost use Rattle.behaviour.specs.FunctionsGiveModule.{FunctionsGiveModule, PassesGiveModule, SameResultsShow};
+ghost use Rattle.behaviour.specs.FunctionsGiveModule.{FunctionsGiveModule, FunctionsGiveCosts, PassesGiveModule, PassesGiveCosts, SameResultsShow};
 ghost use Rattle.behaviour.specs.PlainModules.{PlainModulesBehave, PlainAssemblyIsValid};
 
 /// An assembly module that realizes functions in some form, whose module shows what the Core module means, behaves as
@@ -7,13 +7,26 @@ pub fn functions_give_the_module()
     ensures { FunctionsGiveModule }
 {}
 
+/// Where the functions' module shows the costs of the Core module too, and no call binds a reference, the calls cost no
+/// more.
+#[tactic(auto, using(crate::proofs::Modules::functions_give_costs))]
+pub fn functions_give_the_costs()
+    ensures { FunctionsGiveCosts }
+{}
+
 /// A row of passes from the Core module to functions that the assembly realizes is enough.
 #[tactic(auto, using(crate::proofs::Modules::passes_give_module))]
 pub fn passes_give_the_module()
     ensures { PassesGiveModule }
 {}
 
-/// Results that are the same, whatever is compared, show what a machine needs to follow the older one.
+/// Such a row gives the costs too, where sub-binaries are compared along it.
+pub fn passes_give_the_costs()
+    ensures { PassesGiveCosts }
+{}
+
+/// Results that are the same, whatever is compared, show what a machine needs to follow the older one, and to keep its
+/// costs where sub-binaries are.
 #[tactic(auto, using(crate::proofs::Whole::same_results_show))]
 pub fn same_results_show()
     ensures { SameResultsShow }

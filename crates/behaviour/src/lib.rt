@@ -15,6 +15,7 @@
 mod laws;
 
 pub use laws::{
-    functions_give_the_module, passes_give_the_module, plain_assembly_is_valid,
-    plain_modules_behave_the_same, same_results_show,
+    functions_give_the_costs, functions_give_the_module, passes_give_the_costs,
+    passes_give_the_module, plain_assembly_is_valid, plain_modules_behave_the_same,
+    same_results_show,
 };

@@ -6,7 +6,8 @@ use Rattle.kernel_form.specs.Kernel as K
 use Rattle.kernel_form.specs.Kernel.{Value, var, lit, Expr, values, simple, let_in, match_in, receive, Tree, body, fall, either_in, switch, step, Cases, no_case, and_case, case, no_row}
 use Rattle.kernel_meaning.specs.Walks.{receives, let_calls, binders}
 use Rattle.kernel_meaning.specs.Windows.{window, window_fits}
-use Rattle.kernel_meaning.specs.KernelPredicate.{gives, scoped, calls_fit, everywhere, switch_fits, is_by_steps, has_silent_guard}
+use Rattle.kernel_meaning.specs.KernelPredicate.{gives, scoped, calls_fit, everywhere, switch_fits, is_by_steps, has_silent_guard, has_plain_guard}
+use Rattle.kernel_meaning.specs.Tested.{sizes_named, tests_made, choices_made}
 
 abbrev int : ℕ → Term
 int n = T.int (pos n)
@@ -94,6 +95,37 @@ guard_that_catches : everywhere (λ e. true) has_silent_guard
     (match_in (K.guarded (K.catch (values (var 0 ∷ []))) (gives_one (var 0)) (gives_one (var 0)))) ≡ false
 guard_that_catches = refl
 
+-- a guard that opens a handler, and one that raises, which does not hold then
+guard_that_tries : everywhere (λ e. true) has_plain_guard (match_in (K.guarded
+    (K.try (values (var 0 ∷ [])) (1 ∷ []) (values (var 1 ∷ [])) (2 ∷ 3 ∷ 4 ∷ []) (values (var 0 ∷ [])))
+    (gives_one (var 0)) (gives_one (var 0)))) ≡ false
+guard_that_tries = refl
+
+guard_that_raises : everywhere (λ e. true) has_plain_guard
+    (match_in (K.guarded (simple (K.failing (var 0))) (gives_one (var 0)) (gives_one (var 0)))) ≡ true
+guard_that_raises = refl
+
+-- a receive whose guard puts a pair into the message
+abbrev updating : Expr
+updating = receive 7 1
+    (K.guarded (let_in (2 ∷ []) (simple (K.map_put (var 1)
+    (record { key = lit (int 1); value = var 0; exact = true } ∷ [])))
+    (values (lit (T.atom (codes "true")) ∷ [])))
+    (gives_one (var 1)) (fall 0)) (lit (int 0)) (values (var 0 ∷ []))
+
+updating_guard_is_silent : everywhere (λ e. true) has_silent_guard updating ≡ true
+updating_guard_is_silent = refl
+
+updating_guard_is_plain : everywhere (λ e. true) has_plain_guard updating ≡ true
+updating_guard_is_plain = refl
+
+updating_is_scoped : scoped updating (0 ∷ []) ≡ true
+updating_is_scoped = refl
+
+-- each of the guard's three expressions may be asked what it gives; the update itself is no test
+updating_tests : tests_made updating ≡ 3
+updating_tests = refl
+
 -- a call in the body behind a guard is none in the guard
 body_that_calls : everywhere (λ e. true) has_silent_guard
     (match_in (K.guarded (values (var 0 ∷ [])) (body (simple (K.local 0 []))) (gives_one (var 0)))) ≡ true
@@ -138,3 +170,21 @@ switch_after_a_key : everywhere (λ e. true) switch_fits
     (switch 0 (and_case (case (K.map_has (lit (int 2))) (2 ∷ []) (gives_one (var 2))) no_case) (gives_one (var 0)))))
     ≡ true
 switch_after_a_key = refl
+
+-- Choices and tests: two literals or more are one choice, and no test; a tuple is two tests, and its size is named.
+
+abbrev literals_chosen : Expr
+literals_chosen = match_in (switch 0 (and_case (case (K.is (T.atom (codes "a"))) [] (gives_one (lit (int 1))))
+    (and_case (case (K.is (int 2)) [] (gives_one (var 0))) no_case)) (gives_one (lit T.nil)))
+
+literals_are_one_choice : choices_made literals_chosen ≡ 1
+literals_are_one_choice = refl
+
+literals_are_no_test : tests_made literals_chosen ≡ 0
+literals_are_no_test = refl
+
+tuple_is_two_tests : tests_made (receives_tuple 3) ≡ 2
+tuple_is_two_tests = refl
+
+tuple_names_its_size : sizes_named (receives_tuple 3) ≡ 3 ∷ []
+tuple_names_its_size = refl

@@ -5,13 +5,14 @@ use Rattle.core_form.specs.Core.{Module}
 use Rattle.core_meaning.specs.CoreRun.{Known, apart_of, run_site, deep, known}
 use Rattle.step_machine.specs.Bodies.{BodyMeaning}
 use Rattle.pass_contract.specs.InModule.{InModule}
-use Rattle.pass_contract.specs.PassContract.{Run, at_once, by_site, IsProper, Form, IsMeaning}
+use Rattle.pass_contract.specs.PassContract.{Run, at_once, by_site, IsProper, most, Form, IsMeaning}
 use Rattle.kernel_form.specs.Kernel.{Fun}
 use Rattle.kernel_meaning.specs.Environment.{Setting}
 use Rattle.kernel_meaning.specs.KernelRun.{fun_does}
 use Rattle.kernel_meaning.specs.Walks.{binders, receives, let_calls}
 use Rattle.kernel_meaning.specs.Wanted.{wanted}
 use Rattle.kernel_meaning.specs.Literals.{literals, argument_counts}
+use Rattle.kernel_meaning.specs.Tested.{sizes_named, tests_made, choices_made}
 
 -- what kernel form minds of what is set for a module
 abbrev pub setting_in : InModule → Setting
@@ -33,6 +34,9 @@ form_of f = record {
   next = f.next;
   literals = literals f.body;
   counts = argument_counts f.body;
+  highest = most (sizes_named f.body);
+  tests = tests_made f.body;
+  choices = choices_made f.body;
 }
 
 -- functions by their sites

@@ -7,6 +7,7 @@ pub mod Walks
 pub mod Windows
 pub mod Wanted
 pub mod Literals
+pub mod Tested
 pub mod Forms
 pub mod KernelPredicate
 pub mod TreeContract

@@ -79,11 +79,12 @@ row_lits (seg_row ss t) = segs_lits ss
 abbrev pub literals : Expr → List Term
 literals e = gathered expr_lits tree_lits case_lits row_lits e
 
--- the arguments of a call
+-- the arguments of a call; an error is raised by one
 abbrev pub arguments_at : Expr → List ℕ
 arguments_at (simple (local n vs)) = length vs ∷ []
 arguments_at (simple (apply v vs)) = length vs ∷ []
 arguments_at (simple (remote m f vs)) = length vs ∷ []
+arguments_at (simple (failing v)) = 1 ∷ []
 arguments_at _ = []
 
 -- of all calls

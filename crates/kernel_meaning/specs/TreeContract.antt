@@ -1,5 +1,5 @@
 -- The contracts of passes over decision trees: the new tree takes the same row, and does the same with it.
-use Rattle.std.specs.Prelude.{◌≤◌, ◌+◌, ◌⊎◌, ℕ, List, map, length, Bool, Contains}
+use Rattle.std.specs.Prelude.{◌≤◌, ◌+◌, ◌⊎◌, max, ℕ, List, map, length, Bool, IsTrue, Contains}
 use Rattle.erl_base.specs.Names.{Name}
 use Rattle.erl_term.specs.Term.{Term}
 use Rattle.erl_term.specs.Terms.{Values}
@@ -9,10 +9,12 @@ use Rattle.kernel_form.specs.Kernel.{Tree, Row, var, match_in}
 use Rattle.kernel_meaning.specs.Environment.{Env, no_rests, read_all, Setting}
 use Rattle.kernel_meaning.specs.KernelRun.{no_falls, tree_does, clauses_do}
 use Rattle.pass_contract.specs.SameRun.{Compared, EntersAgree}
-use Rattle.pass_contract.specs.PassContract.{IsLeft}
+use Rattle.pass_contract.specs.PassContract.{most, deepest, are_fitting, most_made, most_named, IsLeft}
 use Rattle.kernel_meaning.specs.Agreement.{TriedAgrees}
 use Rattle.kernel_meaning.specs.Walks.{binders, receives, let_calls}
 use Rattle.kernel_meaning.specs.Wanted.{wanted}
+use Rattle.kernel_meaning.specs.Literals.{literals, argument_counts}
+use Rattle.kernel_meaning.specs.Tested.{sizes_named}
 
 -- a whole tree, whose falls without an alternative take no row, whatever is compared
 abbrev pub TreeAgrees : Tree → Tree → Type 0
@@ -41,3 +43,7 @@ pub record TreeKeeps (next : ℕ) (old new : Tree) : Type 0 where
       → Contains (let_calls (match_in new)) v
   pub variables : length (binders (match_in new)) + wanted (match_in new)
       ≤ length (binders (match_in old)) + wanted (match_in old)
+  pub deepest : deepest (literals (match_in new)) ≤ max (deepest (literals (match_in old))) most_made
+  pub fitting : IsTrue (are_fitting (literals (match_in old))) → IsTrue (are_fitting (literals (match_in new)))
+  pub widest : most (argument_counts (match_in new)) ≤ most (argument_counts (match_in old))
+  pub highest : most (sizes_named (match_in new)) ≤ max (most (sizes_named (match_in old))) most_named

@@ -1,5 +1,5 @@
 -- The contracts of every pass over one function, whatever the forms before and after it (this project's own).
-use Rattle.std.specs.Prelude.{◌≡◌, ◌≤◌, ◌+◌, ◌⊎◌, max, ℕ, zero, suc, List, [], ◌∷◌, map, length, slice_get, Contains, Bool, true, ◌&&◌, eqb, if◌then◌else◌, Option, Some, None, IsTrue, codes}
+use Rattle.std.specs.Prelude.{◌≡◌, ◌≤◌, ◌+◌, ◌-◌, ◌^◌, ◌⊎◌, max, ℕ, zero, suc, List, [], ◌∷◌, map, length, slice_get, Contains, Bool, true, ◌&&◌, eqb, if◌then◌else◌, Option, Some, None, IsTrue, codes}
 use Rattle.erl_base.specs.Names.{Name}
 use Rattle.erl_term.specs.Term as T
 use Rattle.erl_term.specs.Term.{Term}
@@ -81,7 +81,8 @@ Refines old new =
 -- What a contract sees of a function in some form: what it does in each setting of its module; how many parameters it
 -- has; the numbers of its receives; the variables that its calls of other modules' functions are bound to, and all
 -- variables that it binds; how many variables more a body made of it will set; a number above all variables; its
--- literals; and how many arguments its calls have.
+-- literals; how many arguments its calls have; the greatest number of an element or size of a tuple that it names; and
+-- how many steps test something, and choose among terms, in it or in a body made of it.
 pub record Form : Type 0 where
   pub does : InModule → Run
   pub arity : ℕ
@@ -92,6 +93,9 @@ pub record Form : Type 0 where
   pub next : ℕ
   pub literals : List Term
   pub counts : List ℕ
+  pub highest : ℕ
+  pub tests : ℕ
+  pub choices : ℕ
 
 -- the greatest number
 abbrev pub most : List ℕ → ℕ
@@ -110,6 +114,11 @@ are_fitting (t ∷ ts) = fits t && maps_rise t && are_fitting ts
 -- how deep the literals nest that a pass may make
 abbrev pub most_made : ℕ
 most_made = 10
+
+-- the greatest number of an element, or size of a tuple, that a pass may name on its own: that of the machine's
+-- instructions
+abbrev pub most_named : ℕ
+most_named = 2 ^ 24 - 1
 
 -- what is in the new list was in the old one
 abbrev pub IsLeft : List ℕ → List ℕ → Type 0
@@ -133,11 +142,24 @@ pub record KeepsShape (old new : Form) : Type 0 where
   pub deepest : deepest new.literals ≤ max (deepest old.literals) most_made
   pub fitting : IsTrue (are_fitting old.literals) → IsTrue (are_fitting new.literals)
   pub widest : most new.counts ≤ most old.counts
+  -- what instructions name stays within them
+  pub highest : new.highest ≤ max old.highest most_named
 
--- a pass that agrees, in this setting of its module and with this compared
-pub record Keeps (w : Compared) (m : InModule) (old new : Form) : Type 0 where
-  pub agrees : Agrees w (old.does m) (new.does m)
+-- What most passes keep besides: the new function tests no more, and chooses no more. So a choice among literals stays
+-- one step.
+pub record AddsNoTest (old new : Form) : Type 0 where
+  pub tests : new.tests ≤ old.tests
+  pub choices : new.choices ≤ old.choices
+
+-- a pass that agrees, with this compared, from one setting of its module to another: what is handed on as a context is
+-- no sub-binary before it is, and nothing is left out of the count behind it
+pub record KeepsAcross (w : Compared) (m n : InModule) (old new : Form) : Type 0 where
+  pub agrees : Agrees w (old.does m) (new.does n)
   pub shape : KeepsShape old new
+
+-- in one setting
+abbrev pub Keeps : Compared → InModule → Form → Form → Type 0
+Keeps w m old new = KeepsAcross w m m old new
 
 -- a pass that refines, in this setting of its module
 pub record KeepsResults (m : InModule) (old new : Form) : Type 0 where

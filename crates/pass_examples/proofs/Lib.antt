@@ -1,3 +1,7 @@
 mod SmallPath
 mod WholePath
 mod Refused
+mod MarkRoom
+mod UpdatingGuard
+mod Listed
+mod FormedReceive

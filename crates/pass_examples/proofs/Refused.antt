@@ -1,26 +1,30 @@
 -- Wrong bodies are refused.
-use Rattle.std.proofs.Common.{◌≡◌, ◌≤◌, ℕ, zero, suc, List, [], ◌∷◌, Bool, false, true, Some, None, IsTrue, refl, sym, ap, ◌∙◌, subst, arith}
+use Rattle.std.proofs.Common.{◌≡◌, ◌≤◌, inl, ℕ, zero, suc, List, [], ◌∷◌, Bool, false, true, Some, None, IsTrue, refl, sym, ap, ◌∙◌, subst, arith}
 use Rattle.erl_base.specs.declared.ids.FunKey.{FunKey}
 use Rattle.erl_term.specs.Term as T
 use Rattle.erl_term.specs.Term.{Term}
 use Rattle.erl_term.specs.Terms.{Values}
+use Rattle.erl_term.specs.Depth.{depths}
+use Rattle.erl_term.specs.WellFormed.{maps_rise}
 use Rattle.world_model.specs.World as World
 use Rattle.world_model.specs.Run as Run
 use Rattle.world_model.specs.Run.{State, Outcome, Note, gives, spent, cut, noting, sub_binaries, M}
 use Rattle.step_machine.specs.Bodies.{Here, here_of}
 use Rattle.kernel_meaning.specs.Forms.{kernel_does}
+use Rattle.ssa_form.specs.Ssa.{Body}
 use Rattle.ssa_form.specs.Storage.{Around, Frame}
-use Rattle.ssa_form.specs.SsaRun.{Vars, in_vars, blocks, ssa_run}
-use Rattle.ssa_form.specs.PassView.{result_of, around_in, ssa_does}
+use Rattle.ssa_form.specs.Storage as Held
+use Rattle.ssa_form.specs.SsaRun.{Vars, in_vars, blocks, all_terms, ssa_run}
+use Rattle.ssa_form.specs.PassView.{result_of, around_in, ssa_does, ssa_form}
 use Rattle.ssa_form.proofs.OneResult.{proper_each}
 use Rattle.pass_contract.specs.InModule.{InModule}
 use Rattle.pass_contract.specs.Lawful.{IsLawful}
 use Rattle.pass_contract.specs.SameRun.{Compared, SameState, EntersAgree, done}
-use Rattle.pass_contract.specs.PassContract.{Run, ComesTo, GivesSame, Agrees}
+use Rattle.pass_contract.specs.PassContract.{Run, ComesTo, GivesSame, Agrees, most_named, KeepsShape}
 use Rattle.pass_contract.proofs.Modules.{same_itself, lawful_itself}
-use Rattle.pass_examples.specs.SmallPath.{gives_term, gives_param, kernel_fun, ssa_body}
-use Rattle.pass_examples.specs.Refused.{endless, two_params, looks_at, cutting, goes_by_marker, bare, Made, WrongPassesRefused}
-use Rattle.pass_examples.proofs.SmallPath.{some_is, none_there, no_turn, kernel_is, ssa_is}
+use Rattle.pass_examples.specs.SmallPath.{gives_term, gives_param, kernel_fun, ssa_body, in_kernel_form, ahead}
+use Rattle.pass_examples.specs.Refused.{endless, two_params, looks_at, names_much, asks_more, chooses_more, OneMore, cutting, giving_back, goes_by_marker, bare, Made, WrongPassesRefused}
+use Rattle.pass_examples.proofs.SmallPath.{Does, DoesOne, does_one, alike_agree, some_is, none_there, no_turn, kernel_is, ssa_is}
 
 abbrev empty : State
 empty = record { replies = []; mailbox = []; next = 0; left = 0; notes = [] }
@@ -83,6 +87,88 @@ arity w m k n h = let e : 2 ≡ 1 = h.shape.arity in omega (arith, e)
 
 receive : (w : Compared) (m : InModule) (k : FunKey) (n : ℕ) → Made w m k n (looks_at n) → ⊥
 receive w m k n h = none_there 5 (h.shape.receives 5 (0, omega arith, refl))
+
+-- Numbers, tests and choices: bodies that do the same in two turns.
+
+two_turns : (m : InModule) (n : ℕ) (b : Body)
+    → ((here : Here) (v : Term) (s : State) (k : ℕ)
+    → result_of (ssa_run (around_in m) here b (suc (suc k)) (Held.term v ∷ []) [] s) ≡ Some (s, gives v))
+    → ((here : Here) (v : Term) (s : State) (r : State × Outcome Term)
+    → result_of (ssa_run (around_in m) here b 0 (Held.term v ∷ []) [] s) ≡ Some r → ⊥)
+    → ((here : Here) (v : Term) (s : State) (r : State × Outcome Term)
+    → result_of (ssa_run (around_in m) here b 1 (Held.term v ∷ []) [] s) ≡ Some r → ⊥)
+    → DoesOne (λ here vs s k. result_of (ssa_run (around_in m) here b k (all_terms vs) [] s)) gives_param
+two_turns m n b h z o =
+    record { does = λ here v s. record { within = 2; gives = h here v s 0 }; alone = alone_so }
+  where
+    alone_so : (here : Here) (v : Term) (s : State) (r : State × Outcome Term) (k : ℕ)
+        → result_of (ssa_run (around_in m) here b k (all_terms (v ∷ [])) [] s) ≡ Some r → r ≡ (s, gives v)
+    alone_so here v s r zero e = absurd (z here v s r e)
+    alone_so here v s r (suc zero) e = absurd (o here v s r e)
+    alone_so here v s r (suc (suc k)) e = some_is _ _ (sym e ∙ h here v s k)
+
+asks_is : (m : InModule) (n : ℕ) → Does (ssa_does (asks_more n) (around_in m)) gives_param
+unfolding ssa_run
+asks_is m n = does_one _ gives_param
+    (two_turns m n (asks_more n) (λ here v s k. refl) (λ here v s r e. no_turn r e) (λ here v s r e. no_turn r e))
+
+chooses_is : (m : InModule) (n : ℕ) → Does (ssa_does (chooses_more n) (around_in m)) gives_param
+unfolding ssa_run
+chooses_is m n = does_one _ gives_param
+    (two_turns m n (chooses_more n) (λ here v s k. refl) (λ here v s r e. no_turn r e) (λ here v s r e. no_turn r e))
+
+number : (w : Compared) (m : InModule) (k : FunKey) (n : ℕ) → Made w m k n (names_much n) → ⊥
+number w m k n h = let e : suc most_named ≤ most_named = h.shape.highest in omega (arith, e)
+
+shape_of_asks : (k : FunKey) (n : ℕ) → KeepsShape (in_kernel_form k n gives_param) (ssa_form ahead (asks_more n))
+unfolding depths maps_rise
+shape_of_asks k n = record {
+  arity = refl;
+  receives = λ v c. c;
+  added = λ v c. inl c;
+  next = omega arith;
+  calls = λ v c d. c;
+  stays = λ v c d. c;
+  variables = omega arith;
+  deepest = omega arith;
+  fitting = λ e. refl;
+  widest = omega arith;
+  highest = omega arith;
+}
+
+shape_of_chooses : (k : FunKey) (n : ℕ) → KeepsShape (in_kernel_form k n gives_param) (ssa_form ahead (chooses_more n))
+unfolding depths maps_rise
+shape_of_chooses k n = record {
+  arity = refl;
+  receives = λ v c. c;
+  added = λ v c. inl c;
+  next = omega arith;
+  calls = λ v c d. c;
+  stays = λ v c d. c;
+  variables = omega arith;
+  deepest = omega arith;
+  fitting = λ e. refl;
+  widest = omega arith;
+  highest = omega arith;
+}
+
+one_test : (w : Compared) (m : InModule) (k : FunKey) (n : ℕ) → OneMore w m k n (asks_more n)
+one_test w m k n = record {
+  kept = record {
+    agrees = alike_agree w _ _ gives_param (kernel_is m k n gives_param) (asks_is m n);
+    shape = shape_of_asks k n;
+  };
+  adds = λ h. let e : 1 ≤ 0 = h.tests in omega (arith, e);
+}
+
+one_choice : (w : Compared) (m : InModule) (k : FunKey) (n : ℕ) → OneMore w m k n (chooses_more n)
+one_choice w m k n = record {
+  kept = record {
+    agrees = alike_agree w _ _ gives_param (kernel_is m k n gives_param) (chooses_is m n);
+    shape = shape_of_chooses k n;
+  };
+  adds = λ h. let e : 1 ≤ 0 = h.choices in omega (arith, e);
+}
 
 -- Sub-binaries.
 
@@ -196,14 +282,21 @@ marks w e h = other_message (from_there w _ _ h (reference ∷ []) (two (mark �
         let m : 1 ≡ 0 = sym (ap (λ r. first_serial r.0.mailbox) z) ∙ ap first_serial g.same.state.mailbox in
         omega (arith, m)
 
+entered : IsLawful giving_back → ⊥
+entered h = let e : 1 ≤ 0 = (h 0 [] empty).left in omega (arith, e)
+
 pub wrong_passes_refused : WrongPassesRefused
 wrong_passes_refused w m k n = record {
   value = value w m k n;
   end = end w m k n;
   arity = arity w m k n;
   receive = receive w m k n;
+  number = number w m k n;
+  test = one_test w m k n;
+  choice = one_choice w m k n;
   more = more w;
   not_compared = not_compared w;
   fewer = fewer w;
+  entered = entered;
   marks = marks w;
 }

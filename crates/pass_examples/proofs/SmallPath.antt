@@ -1,14 +1,17 @@
 -- What small functions do in each form, and that each step keeps it.
-use Rattle.std.proofs.Common.{◌≡◌, ◌≤◌, ◌⊎◌, inl, inr, ℕ, zero, suc, [], ◌∷◌, length, Bool, true, false, eqb, Contains, Some, None, if◌then◌else◌, refl, sym, ap, ◌∙◌, subst, arith}
+use Rattle.std.proofs.Common.{◌≡◌, ◌≤◌, ◌⊎◌, inl, inr, ℕ, zero, suc, [], ◌∷◌, length, Bool, true, false, eqb, max, Contains, IsTrue, Some, None, if◌then◌else◌, refl, sym, ap, ◌∙◌, subst, arith}
 use Rattle.std.proofs.Math.Nat.{le-max_left}
 use Rattle.erl_base.specs.Names.{Name}
 use Rattle.erl_base.specs.declared.ids.FunKey.{FunKey}
+use Rattle.erl_term.specs.Term as T
 use Rattle.erl_term.specs.Term.{Term}
 use Rattle.erl_term.specs.Terms.{Values, only}
+use Rattle.erl_term.specs.Depth.{depths}
+use Rattle.erl_term.specs.WellFormed.{maps_rise}
 use Rattle.bif_table.specs.Builtins as B
 use Rattle.bif_table.specs.BuiltinAnswer.{Answer, value, raised, answer}
 use Rattle.world_model.specs.Requests.{answers}
-use Rattle.world_model.specs.RemoteCalls.{call_terms}
+use Rattle.world_model.specs.RemoteCalls.{call_erlang, call_terms}
 use Rattle.world_model.specs.Run.{Entry, State, Outcome, gives, raises, waits, spent, M, ◌>>=◌, going_on, give, entered}
 use Rattle.world_model.specs.Meaning.{one, single}
 use Rattle.world_model.specs.Entries.{entry_left}
@@ -16,7 +19,6 @@ use Rattle.step_machine.specs.Bodies.{Here, here_of, calling}
 use Rattle.kernel_form.specs.Kernel as K
 use Rattle.kernel_meaning.specs.Environment.{Setting, with_values, no_values}
 use Rattle.kernel_meaning.specs.KernelRun.{meaning, fun_does}
-use Rattle.kernel_meaning.specs.Forms as Kernel
 use Rattle.kernel_meaning.specs.Forms.{kernel_does}
 use Rattle.kernel_meaning.proofs.Agreeing.{bind_agrees, give_agrees, noted_same}
 use Rattle.kernel_meaning.proofs.Congruences.{call_terms_agrees}
@@ -30,11 +32,11 @@ use Rattle.ssa_form.specs.Spots as Spot
 use Rattle.ssa_form.specs.Spots.{nothing}
 use Rattle.ssa_form.specs.PlacedRun.{in_registers, no_registers, placed_run}
 use Rattle.ssa_form.specs.FramedRun.{in_stack, framed_run}
-use Rattle.ssa_form.specs.PassView.{result_of, around_in, ssa_does, placed_does, framed_does, ssa_form, placed_form}
+use Rattle.ssa_form.specs.PassView.{result_of, around_in, ssa_does, placed_does, framed_does}
 use Rattle.pass_contract.specs.InModule.{InModule}
 use Rattle.pass_contract.specs.SameRun.{Compared, SameState, SameResult, EntersAgree}
-use Rattle.pass_contract.specs.PassContract.{Run, undef, ComesTo, Agrees, Refines, Form, deepest, most_made, KeepsShape}
-use Rattle.pass_examples.specs.SmallPath.{Small, gives_term, gives_param, goes_to, takes_length, calls_out, kernel_body, kernel_fun, ssa_body, spots, placed_body, framed_body, Fits, SmallPathsKeep}
+use Rattle.pass_contract.specs.PassContract.{Run, undef, ComesTo, Agrees, Refines, Form, deepest, are_fitting, most_made, most_named, KeepsShape, AddsNoTest}
+use Rattle.pass_examples.specs.SmallPath.{Small, gives_term, gives_param, goes_to, takes_length, calls_out, fails, erlang, error, kernel_body, kernel_fun, ssa_body, spots, placed_body, framed_body, Fits, in_kernel_form, in_ssa, in_spots, TestsNoMore, SmallPathsKeep}
 
 -- the end that an answer gives
 abbrev pub end_of : Answer → Outcome Term
@@ -48,6 +50,7 @@ result gives_param here v s = (s, gives v)
 result (goes_to n) here v s = one (calling here n true (v ∷ []) >>= single) give s
 result takes_length here v s = (s, end_of (answer B.Length here.own (v ∷ [])))
 result (calls_out t u) here v s = one (call_terms here.own t u (v ∷ [])) give s
+result fails here v s = (s, raises T.error v)
 
 -- with any terms
 abbrev pub given : Small → Here → Values → State → State × Outcome Term
@@ -93,6 +96,7 @@ module _ (w : Compared) (name : Name) (own : Term) (f g : ℕ → Values → M T
   result_same (goes_to n) v s t r = bind_agrees w _ _ _ _
       (bind_agrees w _ _ _ _ (λ a b i. calling_same n (v ∷ []) a b i) (λ a. give_agrees w (a ∷ [])))
       (λ vs. give_agrees w (only vs)) s t r
+  result_same fails v s t r = record { state = r; end = refl }
   result_same (calls_out t' u) v s t r = bind_agrees w _ _ _ _
       (call_terms_agrees w name own f g h t' u (v ∷ [])) (λ vs. give_agrees w (only vs)) s t r
 
@@ -102,7 +106,7 @@ module _ (w : Compared) (name : Name) (own : Term) (f g : ℕ → Values → M T
   given_same q (v ∷ []) s t r = result_same q v s t r
   given_same q (v ∷ u ∷ vs) s t r = record { state = r; end = refl }
 
-alike_agree : (w : Compared) (old new : Run) (q : Small) → Does old q → Does new q → Agrees w old new
+pub alike_agree : (w : Compared) (old new : Run) (q : Small) → Does old q → Does new q → Agrees w old new
 alike_agree w old new q x y name own f g lf lg h vs s t r z e = record {
   result = given q (here_of name own g) vs t;
   gives = y.does (here_of name own g) vs t;
@@ -132,6 +136,7 @@ kernel_result w k n (gives_term t) here v s = refl
 kernel_result w k n gives_param here v s = refl
 kernel_result w k n (goes_to m) here v s = refl
 kernel_result w k n (calls_out t u) here v s = refl
+kernel_result w k n fails here v s = refl
 kernel_result w k n takes_length here v s = answer_then (answer B.Length here.own (v ∷ []))
     (λ vs. meaning w here (K.values (K.var 1 ∷ []))
     (with_values (with_values no_values (0 ∷ []) (v ∷ [])) (1 ∷ []) vs) true) s (λ t u. refl)
@@ -160,11 +165,15 @@ kernel_is m k n q = record {
 
 -- Bodies: what comes with one term in a turn, and nothing in none.
 
-pub does_by : (body : Run) (q : Small)
-    → ((here : Here) (v : Term) (s : State) (k : ℕ) → body here (v ∷ []) s (suc k) ≡ Some (result q here v s))
-    → ((here : Here) (v : Term) (s : State) (r : State × Outcome Term) → body here (v ∷ []) s zero ≡ Some r → ⊥)
+-- with one term
+pub record DoesOne (body : Run) (q : Small) : Type 0 where
+  pub does : (here : Here) (v : Term) (s : State) → ComesTo body here (v ∷ []) s (result q here v s)
+  pub alone : (here : Here) (v : Term) (s : State) (r : State × Outcome Term) (k : ℕ)
+      → body here (v ∷ []) s k ≡ Some r → r ≡ result q here v s
+
+pub does_one : (body : Run) (q : Small) → DoesOne body q
     → Does (λ here vs s k. if eqb (length vs) 1 then body here vs s k else Some (s, undef)) q
-does_by body q h z = record {
+does_one body q h = record {
   does = does_it;
   alone = λ here vs s r e. alone_so here vs s r e.within e.gives;
 }
@@ -181,7 +190,9 @@ does_by body q h z = record {
         → ComesTo (λ here vs s k. if eqb (length vs) 1 then body here vs s k else Some (s, undef)) here vs s
         (given q here vs s)
     does_it here [] s = record { within = 1; gives = refl }
-    does_it here (v ∷ []) s = record { within = 1; gives = h here v s 0 }
+    does_it here (v ∷ []) s =
+        let c : ComesTo body here (v ∷ []) s (result q here v s) = h.does here v s in
+        record { within = c.within; gives = c.gives }
     does_it here (v ∷ u ∷ vs) s = record {
       within = 1;
       gives = others here (v ∷ u ∷ vs) s 1 (eqb (length (v ∷ u ∷ vs)) 1) (more_than_one (length vs));
@@ -190,10 +201,28 @@ does_by body q h z = record {
     alone_so : (here : Here) (vs : Values) (s : State) (r : State × Outcome Term) (k : ℕ)
         → (if eqb (length vs) 1 then body here vs s k else Some (s, undef)) ≡ Some r → r ≡ given q here vs s
     alone_so here [] s r k e = sym (some_is _ _ e)
-    alone_so here (v ∷ []) s r zero e = absurd (z here v s r e)
-    alone_so here (v ∷ []) s r (suc k) e = some_is _ _ (sym e ∙ h here v s k)
+    alone_so here (v ∷ []) s r k e = h.alone here v s r k e
     alone_so here (v ∷ u ∷ vs) s r k e = some_is _ _
         (sym e ∙ others here (v ∷ u ∷ vs) s k (eqb (length (v ∷ u ∷ vs)) 1) (more_than_one (length vs)))
+
+-- in one turn
+pub does_by : (body : Run) (q : Small)
+    → ((here : Here) (v : Term) (s : State) (k : ℕ) → body here (v ∷ []) s (suc k) ≡ Some (result q here v s))
+    → ((here : Here) (v : Term) (s : State) (r : State × Outcome Term) → body here (v ∷ []) s zero ≡ Some r → ⊥)
+    → Does (λ here vs s k. if eqb (length vs) 1 then body here vs s k else Some (s, undef)) q
+does_by body q h z =
+    does_one body q (record { does = λ here v s. record { within = 1; gives = h here v s 0 }; alone = alone_so })
+  where
+    alone_so : (here : Here) (v : Term) (s : State) (r : State × Outcome Term) (k : ℕ)
+        → body here (v ∷ []) s k ≡ Some r → r ≡ result q here v s
+    alone_so here v s r zero e = absurd (z here v s r e)
+    alone_so here v s r (suc k) e = some_is _ _ (sym e ∙ h here v s k)
+
+-- a call that raises an error
+pub raised_error : (own v : Term) (s : State) → one (call_terms own erlang error (v ∷ [])) give s ≡
+    (s, raises T.error v)
+unfolding call_terms call_erlang answer
+raised_error own v s = refl
 
 -- a call that ends the body
 pub ends_over : {X : Type 0} (o : Storage X) (around : Around) (here : Here) (go : Go o around here) (n : ℕ) (l : Last)
@@ -228,6 +257,10 @@ ssa_result m n (goes_to i) h here v s k = rw h
 ssa_result m n (calls_out t u) h here v s k =
     ends_over in_vars (around_in m) here (blocks in_vars (around_in m) here (ssa_body n (calls_out t u)) k) 0
     (ret (S.var 1)) _ (call_terms here.own t u (v ∷ []) s)
+ssa_result m n fails h here v s k = ends_over in_vars (around_in m) here
+    (blocks in_vars (around_in m) here (ssa_body n fails) k) 0 (ret (S.var 1))
+    (chain_does in_vars (around_in m) here [] (ret (S.var 1)) [])
+    (call_terms here.own erlang error (v ∷ []) s) ∙ ap Some (raised_error here.own v s)
 ssa_result m n takes_length h here v s k = ssa_length (around_in m) n here v s k (answer B.Length here.own (v ∷ []))
 
 pub no_turn : (r : State × Outcome Term) → None ≡ Some r → ⊥
@@ -259,6 +292,10 @@ placed_result m n (goes_to i) h here v s k = rw h (ends_over (in_registers spots
 placed_result m n (calls_out t u) h here v s k = ends_over (in_registers spots) (around_in m) here
     (blocks (in_registers spots) (around_in m) here (ssa_body n (calls_out t u)) k) 0 (ret (S.var 1)) _
     (call_terms here.own t u (v ∷ []) s)
+placed_result m n fails h here v s k = ends_over (in_registers spots) (around_in m) here
+    (blocks (in_registers spots) (around_in m) here (ssa_body n fails) k) 0 (ret (S.var 1))
+    (chain_does (in_registers spots) (around_in m) here [] (ret (S.var 1)) [])
+    (call_terms here.own erlang error (v ∷ []) s) ∙ ap Some (raised_error here.own v s)
 placed_result m n takes_length h here v s k =
     placed_length (around_in m) n here v s k (answer B.Length here.own (v ∷ []))
 
@@ -289,6 +326,10 @@ framed_result m n (goes_to i) h here v s k = rw h (ends_over (in_stack spots ((0
 framed_result m n (calls_out t u) h here v s k = ends_over (in_stack spots ((0, 1) ∷ [])) (around_in m) here
     (blocks (in_stack spots ((0, 1) ∷ [])) (around_in m) here (ssa_body n (calls_out t u)) k) 0 (ret (S.var 1)) _
     (call_terms here.own t u (v ∷ []) s)
+framed_result m n fails h here v s k = ends_over (in_stack spots ((0, 1) ∷ [])) (around_in m) here
+    (blocks (in_stack spots ((0, 1) ∷ [])) (around_in m) here (ssa_body n fails) k) 0 (ret (S.var 1))
+    (chain_does (in_stack spots ((0, 1) ∷ [])) (around_in m) here [] (ret (S.var 1)) [])
+    (call_terms here.own erlang error (v ∷ []) s) ∙ ap Some (raised_error here.own v s)
 framed_result m n takes_length h here v s k =
     framed_length (around_in m) n here v s k (answer B.Length here.own (v ∷ []))
 
@@ -313,8 +354,16 @@ added_one v (zero, l, e) = inl (zero, omega arith, e)
 added_one v (suc zero, l, e) = let p : 1 ≡ v = e in inr (omega (arith, p))
 added_one v (suc (suc k), l, e) = absurd (omega (arith, l))
 
+error_depth : deepest (erlang ∷ error ∷ []) ≤ max (deepest []) most_made
+unfolding depths
+error_depth = omega arith
+
+error_fits : IsTrue (are_fitting (erlang ∷ error ∷ []))
+unfolding maps_rise
+error_fits = refl
+
 abbrev Built : FunKey → ℕ → Small → Type 0
-Built k n q = KeepsShape (Kernel.form_of (kernel_fun k n q)) (ssa_form 2 (ssa_body n q))
+Built k n q = KeepsShape (in_kernel_form k n q) (in_ssa n q)
 
 built : (k : FunKey) (n : ℕ) (q : Small) → Built k n q
 built k n (gives_term t) = record {
@@ -328,6 +377,7 @@ built k n (gives_term t) = record {
   deepest = le-max_left (deepest (t ∷ [])) most_made;
   fitting = λ e. e;
   widest = omega arith;
+  highest = omega arith;
 }
 built k n gives_param = record {
   arity = refl;
@@ -340,6 +390,7 @@ built k n gives_param = record {
   deepest = omega arith;
   fitting = λ e. e;
   widest = omega arith;
+  highest = omega arith;
 }
 built k n (goes_to i) = record {
   arity = refl;
@@ -352,6 +403,7 @@ built k n (goes_to i) = record {
   deepest = omega arith;
   fitting = λ e. e;
   widest = omega arith;
+  highest = omega arith;
 }
 built k n takes_length = record {
   arity = refl;
@@ -364,6 +416,7 @@ built k n takes_length = record {
   deepest = omega arith;
   fitting = λ e. e;
   widest = omega arith;
+  highest = omega arith;
 }
 built k n (calls_out t u) = record {
   arity = refl;
@@ -376,7 +429,24 @@ built k n (calls_out t u) = record {
   deepest = le-max_left (deepest (t ∷ u ∷ [])) most_made;
   fitting = λ e. e;
   widest = omega arith;
+  highest = omega arith;
 }
+built k n fails = shape
+  where
+    shape : Built k n fails
+    shape = record {
+      arity = refl;
+      receives = λ v c. c;
+      added = added_one;
+      next = omega arith;
+      calls = λ v c d. absurd (not_zero v (one_there 1 v c) (one_there 0 v d));
+      stays = λ v c d. absurd (none_there v c);
+      variables = omega arith;
+      deepest = error_depth;
+      fitting = λ e. error_fits;
+      widest = omega arith;
+      highest = omega arith;
+    }
 
 -- a form beside another one with the same parts
 same_shape : (does' : InModule → Run) (x : Form) → KeepsShape x (record x { does = does' })
@@ -391,6 +461,28 @@ same_shape does' x = record {
   deepest = le-max_left (deepest x.literals) most_made;
   fitting = λ e. e;
   widest = omega arith;
+  highest = le-max_left x.highest most_named;
+}
+
+-- Tests.
+
+built_tests : (k : FunKey) (n : ℕ) (q : Small) → AddsNoTest (in_kernel_form k n q) (in_ssa n q)
+built_tests k n (gives_term t) = record { tests = omega arith; choices = omega arith }
+built_tests k n gives_param = record { tests = omega arith; choices = omega arith }
+built_tests k n (goes_to i) = record { tests = omega arith; choices = omega arith }
+built_tests k n takes_length = record { tests = omega arith; choices = omega arith }
+built_tests k n (calls_out t u) = record { tests = omega arith; choices = omega arith }
+built_tests k n fails = record { tests = omega arith; choices = omega arith }
+
+-- a form beside another one with the same parts
+same_tests : (does' : InModule → Run) (x : Form) → AddsNoTest x (record x { does = does' })
+same_tests does' x = record { tests = omega arith; choices = omega arith }
+
+tests_no_more : (k : FunKey) (n : ℕ) (q : Small) → TestsNoMore k n q
+tests_no_more k n q = record {
+  built = built_tests k n q;
+  placed = same_tests _ (in_ssa n q);
+  framed = same_tests _ (in_spots n q);
 }
 
 pub small_paths_keep : SmallPathsKeep
@@ -401,10 +493,11 @@ small_paths_keep w m k n q h = record {
   };
   placed = record {
     refines = alike_refine _ _ q (ssa_is m n q h) (placed_is m n q h);
-    shape = same_shape _ (ssa_form 2 (ssa_body n q));
+    shape = same_shape _ (in_ssa n q);
   };
   framed = record {
     refines = alike_refine _ _ q (placed_is m n q h) (framed_is m n q h);
-    shape = same_shape _ (placed_form 2 (placed_body n q));
+    shape = same_shape _ (in_spots n q);
   };
+  tests = tests_no_more k n q;
 }

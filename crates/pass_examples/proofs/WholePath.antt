@@ -1,4 +1,5 @@
 -- The small module does the same in each form, and its assembly realizes it.
+use mathlib.Core.List.{reverse}
 use Rattle.std.proofs.Common.{◌≡◌, ◌≤◌, ℕ, zero, suc, List, [], ◌∷◌, length, Bool, true, false, eqb, slice_get, Contains, codes, Option, Some, None, if◌then◌else◌, refl, sym, ap, ◌∙◌, subst, arith}
 use Rattle.erl_base.specs.declared.ids.FunKey.{FunKey}
 use Rattle.erl_term.specs.Term as T
@@ -7,8 +8,9 @@ use Rattle.erl_term.specs.Terms.{Values, only}
 use Rattle.bif_table.specs.Builtins as B
 use Rattle.bif_table.specs.BuiltinAnswer.{Answer, value, raised, answer}
 use Rattle.world_model.specs.RemoteCalls.{call_terms}
-use Rattle.world_model.specs.Run.{State, Outcome, gives, raises, waits, spent, M, ◌>>=◌, going_on, give}
-use Rattle.world_model.specs.World.{Reply}
+use Rattle.world_model.specs.Run.{Entry, entered, noting, marks, State, Outcome, gives, raises, waits, spent, M, ◌>>=◌, going_on, give}
+use Rattle.world_model.specs.World.{Reply, Script}
+use Rattle.world_model.specs.Entries.{entry_left}
 use Rattle.world_model.specs.Meaning.{one, single}
 use Rattle.core_form.specs.Core.{Expr, literal, var, call, and_expr, no_expr}
 use Rattle.core_form.specs.Captures.{sites_in}
@@ -16,7 +18,7 @@ use Rattle.core_form.specs.Scope.{with_names}
 use Rattle.core_form.specs.Sites.{module_scope}
 use Rattle.core_form.specs.Walks.{with_let}
 use Rattle.core_meaning.specs.Calls.{Invocation}
-use Rattle.core_meaning.specs.CoreRun.{known, apart_of, run_site, deep}
+use Rattle.core_meaning.specs.CoreRun.{known, apart_of, run_site, deep, known_export, start, evaluated}
 use Rattle.core_meaning.specs.Evaluation.{eval}
 use Rattle.core_meaning.specs.EvaluationContext.{EvaluationContext, bind, past}
 use Rattle.step_machine.specs.Bodies.{Here, here_of, calling}
@@ -26,7 +28,7 @@ use Rattle.beam_table.specs.Code.{Reg, Source, Insn, move, return, call_only, gc
 use Rattle.beam_table.specs.GeneralRules as GeneralRules
 use Rattle.beam_table.specs.GeneralRules.{returns_to, cells}
 use Rattle.beam_table.specs.InstructionStep.{step}
-use Rattle.beam_table.specs.MachineState.{Cell, Activation, Machine}
+use Rattle.beam_table.specs.MachineState.{Activation, Machine}
 use Rattle.kernel_form.specs.Kernel as K
 use Rattle.kernel_meaning.specs.Forms.{core_body, core_runs, kernel_runs}
 use Rattle.kernel_meaning.proofs.Proper as Kernel
@@ -42,19 +44,21 @@ use Rattle.ssa_form.specs.PlacedRun.{Placed, in_registers, no_registers, placed_
 use Rattle.ssa_form.specs.FramedRun.{Framed, in_stack, framed_run}
 use Rattle.ssa_form.specs.PassView.{result_of, around_in, placed_does, framed_does, ssa_runs, placed_runs, framed_runs}
 use Rattle.ssa_form.proofs.OneResult.{proper_each}
-use Rattle.pass_contract.specs.SameRun.{Compared, nothing_more, SameResult}
+use Rattle.pass_contract.specs.SameRun.{Compared, SameResult}
 use Rattle.pass_contract.specs.Lawful.{Lawful}
 use Rattle.pass_contract.specs.PassContract.{Run, undef, missing, ComesTo, IsProper, Agrees, Refines, MeansSame, Row, ends, agreed, refined}
 use Rattle.pass_contract.proofs.Modules.{rows_mean, lawful_itself}
 use Rattle.behaviour.specs.Called.{export_keys}
-use Rattle.behaviour.specs.FunctionsGiveModule.{Finds}
-use Rattle.behaviour.specs.MachineTarget.{AtEntry, Holds, target}
+use Rattle.behaviour.specs.FunctionsGiveModule.{Finds, BindsNone, CompiledBy}
+use Rattle.behaviour.specs.SameBehaviour.{SameInterface, SameBehaviour, TailCalls}
+use Rattle.behaviour.specs.MachineTarget.{AtEntry, target}
 use Rattle.behaviour.specs.Realizes.{Matches, Comes, Realizes, RealizesAll, RunRealized, RunsRealized}
-use Rattle.behaviour.proofs.Calling.{ready, call_only_realizes}
-use Rattle.behaviour.proofs.Modules.{passes_give_module}
-use Rattle.pass_examples.specs.SmallPath.{Small, gives_term, gives_param, goes_to, takes_length, calls_out, kernel_fun, ssa_body, Fits}
+use Rattle.behaviour.proofs.Calling.{ready, entry_ready, ready_matches, call_only_realizes}
+use Rattle.behaviour.proofs.Bridge.{marks-reverse}
+use Rattle.behaviour.proofs.Modules.{passes_give_module, passes_give_costs}
+use Rattle.pass_examples.specs.SmallPath.{Small, gives_term, gives_param, goes_to, takes_length, calls_out, fails, erlang, error, kernel_fun, ssa_body, Fits}
 use Rattle.pass_examples.specs.WholePath.{here_in_text, key, x, core, bodies, set_so, register, in_register, without_frame, asm, WholePath}
-use Rattle.pass_examples.proofs.SmallPath.{end_of, result, given, given_same, answer_then, Does, does_by, ends_over, no_turn, kernel_is, ssa_is}
+use Rattle.pass_examples.proofs.SmallPath.{raised_error, end_of, result, given, given_same, answer_then, Does, does_by, ends_over, no_turn, kernel_is, ssa_is}
 
 -- With spots, and without a frame.
 
@@ -82,6 +86,10 @@ placed_result n (goes_to i) h here v s k = rw h (ends_over (in_registers registe
 placed_result n (calls_out t u) h here v s k = ends_over (in_registers register) (around_in set_so) here
     (blocks (in_registers register) (around_in set_so) here (ssa_body n (calls_out t u)) k) 0 (ret (S.var 1)) _
     (call_terms here.own t u (v ∷ []) s)
+placed_result n fails h here v s k = ends_over (in_registers register) (around_in set_so) here
+    (blocks (in_registers register) (around_in set_so) here (ssa_body n fails) k) 0 (ret (S.var 1))
+    (chain_does (in_registers register) (around_in set_so) here [] (ret (S.var 1)) [])
+    (call_terms here.own erlang error (v ∷ []) s) ∙ ap Some (raised_error here.own v s)
 placed_result n takes_length h here v s k =
     placed_length (around_in set_so) n here v s k (answer B.Length here.own (v ∷ []))
 
@@ -112,6 +120,10 @@ framed_result n (goes_to i) h here v s k = rw h (ends_over (in_stack register []
 framed_result n (calls_out t u) h here v s k = ends_over (in_stack register []) (around_in set_so) here
     (blocks (in_stack register []) (around_in set_so) here (ssa_body n (calls_out t u)) k) 0 (ret (S.var 1)) _
     (call_terms here.own t u (v ∷ []) s)
+framed_result n fails h here v s k = ends_over (in_stack register []) (around_in set_so) here
+    (blocks (in_stack register []) (around_in set_so) here (ssa_body n fails) k) 0 (ret (S.var 1))
+    (chain_does (in_stack register []) (around_in set_so) here [] (ret (S.var 1)) [])
+    (call_terms here.own erlang error (v ∷ []) s) ∙ ap Some (raised_error here.own v s)
 framed_result n takes_length h here v s k =
     framed_length (around_in set_so) n here v s k (answer B.Length here.own (v ∷ []))
 
@@ -314,51 +326,27 @@ core_at own n = record {
   alone = λ here vs s r e. sym (some_is _ _ e.gives) ∙ core_given own n here vs s;
 }
 
--- In a row.
+-- In a row: sub-binaries are compared, marks are not.
 
-row : (own : Term) → Row nothing_more (core_runs core own) (framed_runs set_so framed)
+abbrev sub_binaries_too : Compared
+sub_binaries_too = record { marks = false; cuts = true }
+
+row : (own : Term) → Row sub_binaries_too (core_runs core own) (framed_runs set_so framed)
 row own = agreed _ (kernel_runs set_so funs) _ kernel_proper
-    (λ n. agree_at nothing_more _ _ (at_site n) (core_at own n) (kernel_at n))
+    (λ n. agree_at sub_binaries_too _ _ (at_site n) (core_at own n) (kernel_at n))
     (agreed _ (ssa_runs set_so ssa) _ ssa_proper
-    (λ n. agree_at nothing_more _ _ (at_site n) (kernel_at n) (ssa_at n))
+    (λ n. agree_at sub_binaries_too _ _ (at_site n) (kernel_at n) (ssa_at n))
     (refined _ (placed_runs set_so placed) _ (λ n. refine_at _ _ (at_site n) (ssa_at n) (placed_at n))
     (refined _ (framed_runs set_so framed) _ (λ n. refine_at _ _ (at_site n) (placed_at n) (framed_at n))
     (ends (framed_runs set_so framed)))))
 
-same : (own : Term) → MeansSame nothing_more core.name own (framed_runs set_so framed) (deep (known core own))
-same own = rows_mean nothing_more _ _ (row own) core.name own (deep (known core own)) (Kernel.core_runs_mean core own)
+same : (own : Term) → MeansSame sub_binaries_too core.name own (framed_runs set_so framed) (deep (known core own))
+same own = rows_mean sub_binaries_too _ _ (row own) core.name own (deep (known core own))
+    (Kernel.core_runs_mean core own)
 
 -- The assembly.
 
 module _ (own : Term) where
-  is_ready : (n : ℕ) (vs : Values) (is : List Insn) (above : List Activation) (m : Machine) (s : State)
-      (e : AtEntry asm n vs above m) → Holds own s m → e.function.code ≡ is → m ≡ ready is (cells vs) None above m
-  is_ready n vs is above m s e h c = λ i. record m {
-    xs = e.xs i;
-    frame = e.frame i;
-    callers = e.callers i;
-    save = h.save i;
-    window = h.window i;
-    code = (e.code ∙ c) i;
-    landing = h.landing i;
-  }
-
-  as_matches : (s : State) (is : List Insn) (cs : List Cell) (above : List Activation) (m : Machine) (rs : List Reply)
-      (log : List Steps.Event) → Matches (target asm own) s m rs log
-      → Matches (target asm own) s (ready is cs None above m) rs log
-  as_matches s is cs above m rs log w = record {
-    replies = w.replies;
-    noted = w.noted;
-    mailbox = record {
-      own = w.mailbox.own;
-      mailbox = w.mailbox.mailbox;
-      next_serial = w.mailbox.next_serial;
-      save = refl;
-      window = refl;
-      landing = refl;
-    };
-  }
-
   moved : (t v : Term) (above : List Activation) (m : Machine) (rs : List Reply) (log : List Steps.Event)
       → Comes (target asm own) (ready (move (Source.literal t) (Reg.x_reg 0) ∷ return ∷ []) (cells (v ∷ [])) None above
       m)
@@ -386,9 +374,10 @@ module _ (own : Term) where
     state = record (ready [] (cells (t ∷ [])) None above m) { room = 0 };
     rs' = rs;
     log' = log;
-    matches = as_matches s [] (cells (t ∷ [])) above (record m { room = 0 }) rs log (record {
+    matches = ready_matches asm own s (record m { room = 0 }) [] (cells (t ∷ [])) None above rs log (record {
       replies = w.replies;
       noted = w.noted;
+      costs = w.costs;
       mailbox = record {
         own = w.mailbox.own;
         mailbox = w.mailbox.mailbox;
@@ -410,9 +399,10 @@ module _ (own : Term) where
     state = asked v above m;
     rs' = rs;
     log' = log;
-    matches = as_matches s (return ∷ []) (cells (v ∷ [])) above (record m { room = 0 }) rs log (record {
+    matches = ready_matches asm own s (record m { room = 0 }) (return ∷ []) (cells (v ∷ [])) None above rs log (record {
       replies = w.replies;
       noted = w.noted;
+      costs = w.costs;
       mailbox = record {
         own = w.mailbox.own;
         mailbox = w.mailbox.mailbox;
@@ -442,7 +432,7 @@ module _ (own : Term) where
     state = ready [] (cells (v ∷ [])) None above m;
     rs' = rs;
     log' = log;
-    matches = as_matches s [] (cells (v ∷ [])) above m rs log w;
+    matches = ready_matches asm own s m [] (cells (v ∷ [])) None above rs log w;
     comes = returned v above m rs log;
   }
 
@@ -469,7 +459,7 @@ module _ (own : Term) where
     state = ready [] (cells (T.nil ∷ [])) None above m;
     rs' = rs;
     log' = log;
-    matches = as_matches s [] (cells (T.nil ∷ [])) above m rs log w;
+    matches = ready_matches asm own s m [] (cells (T.nil ∷ [])) None above rs log w;
     comes = moved T.nil v above m rs log;
   }
 
@@ -487,7 +477,8 @@ module _ (own : Term) where
       one_term (v ∷ []) d enter above m rs log s all l one e w = subst
           (λ z. Realizes (target asm own) above z rs log
           (given_at (at_site n) (here_of core.name own enter) (v ∷ []) s))
-          (sym (is_ready n (v ∷ []) f.code above m s e w.mailbox (ap (λ g. g.code) (sym (fun_is e.function e.found)))))
+          (sym (entry_ready asm own n (v ∷ []) f.code above m s e w.mailbox
+          (ap (λ g. g.code) (sym (fun_is e.function e.found)))))
           (coded d enter v above m rs log s all l w)
       one_term (v ∷ u ∷ vs) d enter above m rs log s all l one e w = absurd (omega (arith, one))
 
@@ -522,6 +513,65 @@ finds f (suc (suc (suc zero)), l, e) =
     subst (λ g. Finds core asm g) e (record { function = _; found = refl; arity = refl; code = refl })
 finds f (suc (suc (suc (suc k))), l, e) = absurd (omega (arith, l))
 
+-- No call binds a reference.
+
+abbrev LeavesMarks : {A : Type 0} → State → State × Outcome A → Type 0
+LeavesMarks s r = marks r.0.notes ≡ marks s.notes
+
+keeps_on : {A B : Type 0} (s : State) (r : State × Outcome A) (k : A → M B) → LeavesMarks s r
+    → ((a : A) (u : State) → LeavesMarks u (k a u)) → LeavesMarks s (going_on r k)
+keeps_on s (u, gives a) k h i = i a u ∙ h
+keeps_on s (u, raises c t) k h i = h
+keeps_on s (u, waits q) k h i = h
+keeps_on s (u, spent) k h i = h
+
+given_leaves : (q : Small) (here : Here) → ((v : Term) (s : State) → LeavesMarks s (result q here v s)) → (vs : Values)
+    (s : State) → LeavesMarks s (given q here vs s)
+given_leaves q here h [] s = refl
+given_leaves q here h (v ∷ []) s = h v s
+given_leaves q here h (v ∷ u ∷ vs) s = refl
+
+module _ (here : Here) (kept : (n : ℕ) (vs : Values) (s : State) → LeavesMarks s (here.enter n vs s)) where
+  enters : (e : Entry) (n k : ℕ) (vs : Values) (s : State) → LeavesMarks s (entry_left k e (here.enter n vs) s)
+  enters e n zero vs s = refl
+  enters e n (suc k) vs s = kept n vs (noting (entered e) (record s { left = k }))
+
+  calls_leave : (v : Term) (s : State) → LeavesMarks s (result (goes_to 0) here v s)
+  calls_leave v s =
+      let e : Entry = record { site = 0; tail = true } in
+      let r : State × Outcome Term = entry_left s.left e (here.enter 0 (v ∷ [])) s in
+      keeps_on s (going_on r single) (λ ws. give (only ws))
+      (keeps_on s r single (enters e 0 s.left (v ∷ []) s) (λ a u. refl)) (λ ws u. refl)
+
+  site_leaves : (n : ℕ) (vs : Values) (s : State) → LeavesMarks s (given_at (at_site n) here vs s)
+  site_leaves zero vs s = given_leaves gives_param here (λ v u. refl) vs s
+  site_leaves (suc zero) vs s = given_leaves (goes_to 0) here calls_leave vs s
+  site_leaves (suc (suc zero)) vs s = given_leaves takes_length here (λ v u. refl) vs s
+  site_leaves (suc (suc (suc zero))) vs s = given_leaves (gives_term T.nil) here (λ v u. refl) vs s
+  site_leaves (suc (suc (suc (suc n)))) vs s = refl
+
+deep_leaves : (own : Term) (d n : ℕ) (vs : Values) (s : State) → LeavesMarks s (deep (known core own) d n vs s)
+unfolding deep
+deep_leaves own zero n vs s = refl
+deep_leaves own (suc d) n vs s = subst (λ r. LeavesMarks s r)
+    (sym (core_given own n (here_of core.name own (deep (known core own) d)) vs s))
+    (site_leaves (here_of core.name own (deep (known core own) d)) (deep_leaves own d) n vs s)
+
+binds_none : (f : FunKey) (vs : Values) (x : Script) → BindsNone core f vs x
+unfolding evaluated
+binds_none f vs x n = let r : State × Outcome Term = deep (known core x.own) (suc n) (known_export core f) vs
+    (start x n) in
+    marks-reverse r.0.notes ∙ ap reverse (deep_leaves x.own (suc n) (known_export core f) vs (start x n))
+
 pub whole_path : WholePath
-whole_path = passes_give_module nothing_more core asm (λ own. framed_runs set_so framed)
-    (record { name = refl; attributes = refl; exports = refl }) finds (record { same = same; realized = realized })
+whole_path =
+    let i : SameInterface core asm = record { name = refl; attributes = refl; exports = refl } in
+    let c : CompiledBy sub_binaries_too core asm (λ own. framed_runs set_so framed) =
+    record { same = same; realized = realized } in
+    let b : SameBehaviour core asm × TailCalls core asm =
+    passes_give_module sub_binaries_too core asm (λ own. framed_runs set_so framed) i finds c in (
+      b.0,
+      b.1,
+      passes_give_costs sub_binaries_too refl core asm (λ own. framed_runs set_so framed) finds c
+          (λ f vs x d. binds_none f vs x),
+    )

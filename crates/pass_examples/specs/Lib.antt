@@ -1,3 +1,5 @@
 pub mod SmallPath
 pub mod WholePath
 pub mod Refused
+pub mod MarkRoom
+pub mod UpdatingGuard

@@ -9,7 +9,7 @@ use Rattle.core_form.specs.declared.tree.Binder.{Binder}
 use Rattle.core_form.specs.declared.module.FunName.{FunName}
 use Rattle.core_form.specs.Core.{Module, Expr, literal, var, fun_name, fun, let_in, apply, call, and_expr, no_expr, no_def, and_def, def}
 use Rattle.beam_table.specs.Code.{Reg, Source, Insn, move, return, call_only, gc_bif, AsmFun, AsmModule}
-use Rattle.behaviour.specs.SameBehaviour.{SameBehaviour, TailCalls}
+use Rattle.behaviour.specs.SameBehaviour.{SameBehaviour, TailCalls, CheapCalls}
 use Rattle.ssa_form.specs.Spots.{Spots, x_reg}
 use Rattle.ssa_form.specs.PlacedRun.{Placed}
 use Rattle.ssa_form.specs.FramedRun.{Framed}
@@ -97,6 +97,6 @@ asm = record {
       ∷ asm_fun (codes "none") 7 (move (Source.literal T.nil) (Reg.x_reg 0) ∷ return ∷ []) ∷ [];
 }
 
--- they behave the same, and a tail call stays one: shown function by function, along the forms
+-- they behave the same, a tail call stays one, and no call costs more: shown function by function, along the forms
 abbrev pub WholePath : Type 0
-WholePath = SameBehaviour core asm × TailCalls core asm
+WholePath = SameBehaviour core asm × TailCalls core asm × CheapCalls core asm

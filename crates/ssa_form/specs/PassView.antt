@@ -1,10 +1,10 @@
 -- The three forms of a body as the contract of every pass sees them.
-use Rattle.std.specs.Prelude.{ℕ, ◌-◌, List, [], ◌∷◌, ◌++◌, map, length, Option, Some, None}
+use Rattle.std.specs.Prelude.{ℕ, ◌+◌, ◌-◌, List, [], ◌∷◌, ◌++◌, map, length, sum, eqb, if◌then◌else◌, Option, Some, None}
 use Rattle.erl_term.specs.Term.{Term}
 use Rattle.world_model.specs.Run.{State, Outcome}
 use Rattle.pass_contract.specs.InModule.{InModule}
-use Rattle.pass_contract.specs.PassContract.{Run, fitting, by_site, IsProper, Form}
-use Rattle.ssa_form.specs.Ssa.{Arg, var, lit, Op, call_local, call_fun, call_remote, peek, Set, Last, br, succeeded, switch, ret, Phi, Block, Body}
+use Rattle.pass_contract.specs.PassContract.{Run, fitting, by_site, IsProper, most, Form}
+use Rattle.ssa_form.specs.Ssa.{Arg, var, lit, test_arity, is_tagged_tuple, Op, bif, map_get, element, check, call_local, call_fun, call_remote, bs_start, bs_integer, bs_binary, bs_skip, bs_done, bs_unit, peek, Set, Last, br, succeeded, switch, ret, Phi, Block, Body}
 use Rattle.ssa_form.specs.Storage.{Around, Ended, done, unfinished}
 use Rattle.ssa_form.specs.SsaRun.{all_terms, ssa_run}
 use Rattle.ssa_form.specs.PlacedRun.{Placed, placed_run}
@@ -108,32 +108,80 @@ arguments_of call_fun n = (n - 1) ∷ []
 arguments_of call_remote n = (n - 2) ∷ []
 arguments_of op n = []
 
--- A body as passes see it, by what it does. A body binds all its variables itself, and keeps no number above them: the
--- next one is said beside it.
-abbrev pub form_of : (Around → Run) → ℕ → Body → Form
-form_of does next b = record {
+-- the numbers of elements and sizes of tuples that an operation names; a switch on a tuple's size names none, since it
+-- is a choice among integers
+abbrev pub named_by : Op → List ℕ
+named_by (element n) = n ∷ []
+named_by (check (test_arity n)) = n ∷ []
+named_by (check (is_tagged_tuple n a)) = n ∷ []
+named_by _ = []
+
+-- How many steps test something: listed functions, tests of terms, reads of a map's key, what begins and takes from a
+-- context, and branches that are not plain. The other operations that a last may test build something, or wait.
+
+-- of an operation
+abbrev pub tests_of : Op → ℕ
+tests_of (bif b) = 1
+tests_of map_get = 1
+tests_of (check c) = 1
+tests_of bs_start = 1
+tests_of (bs_integer h) = 1
+tests_of (bs_binary h) = 1
+tests_of (bs_skip h) = 1
+tests_of bs_done = 1
+tests_of (bs_unit n) = 1
+tests_of _ = 0
+
+-- of a last
+abbrev pub last_tests : Last → ℕ
+last_tests (br a t e) = if eqb t e then 0 else 1
+last_tests _ = 0
+
+-- how many steps choose among terms
+abbrev pub last_choices : Last → ℕ
+last_choices (switch a d cs) = 1
+last_choices _ = 0
+
+-- what a function gives of the lasts of a body, together
+abbrev pub sum_lasts : (Last → ℕ) → List (Option Block) → ℕ
+sum_lasts f [] = 0
+sum_lasts f (None ∷ os) = sum_lasts f os
+sum_lasts f (Some x ∷ os) = f x.last + sum_lasts f os
+
+-- What is said beside a body, since it keeps neither: a number above all variables, and how many it may still get, as
+-- the mark of each call that may be marked.
+pub record Ahead : Type 0 where
+  pub next : ℕ
+  pub wanted : ℕ
+
+-- a body as passes see it, by what it does
+abbrev pub form_of : (Around → Run) → Ahead → Body → Form
+form_of does ahead b = record {
   does = λ m. does (around_in m);
   arity = length b.params;
   receives = gathers (λ x. receive_of x.op) b.blocks;
   calls = gathers (λ x. call_of x.op x.dst) b.blocks;
   variables = b.params ++ blocks_set b.blocks;
-  wanted = 0;
-  next = next;
+  wanted = ahead.wanted;
+  next = ahead.next;
   literals = blocks_lits b.blocks;
   counts = gathers (λ x. arguments_of x.op (length x.args)) b.blocks;
+  highest = most (gathers (λ x. named_by x.op) b.blocks);
+  tests = sum (gathers (λ x. tests_of x.op ∷ []) b.blocks) + sum_lasts last_tests b.blocks;
+  choices = sum_lasts last_choices b.blocks;
 }
 
 -- of a body
-abbrev pub ssa_form : ℕ → Body → Form
-ssa_form next b = form_of (ssa_does b) next b
+abbrev pub ssa_form : Ahead → Body → Form
+ssa_form ahead b = form_of (ssa_does b) ahead b
 
 -- of one with spots
-abbrev pub placed_form : ℕ → Placed → Form
-placed_form next p = form_of (placed_does p) next p.body
+abbrev pub placed_form : Ahead → Placed → Form
+placed_form ahead p = form_of (placed_does p) ahead p.body
 
 -- of one with frames
-abbrev pub framed_form : ℕ → Framed → Form
-framed_form next p = form_of (framed_does p) next p.body
+abbrev pub framed_form : Ahead → Framed → Form
+framed_form ahead p = form_of (framed_does p) ahead p.body
 
 -- the runs of each form have at most one result, which is lawful where what they enter is
 pub record BodiesAreProper : Type 0 where
