@@ -1,0 +1,2 @@
+mod Shallowness
+mod Following

@@ -1,0 +1,5 @@
+pub mod Sorts
+pub mod TokenKinds
+pub mod Beginnings
+pub mod Reactions
+pub mod Shallow
