@@ -1,2 +1,5 @@
 mod Shallowness
 mod Following
+mod Choosing
+mod Pieces
+mod PartForms

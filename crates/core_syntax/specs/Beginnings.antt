@@ -335,12 +335,15 @@ head d k es =
 abbrev pub clause : ℕ → TokenKind → List Entry → Reaction
 clause d k es = head d k (at d I.ClauseEnd ∷ es)
 
--- module name [ exports ] attributes [ attributes ] definitions end
-abbrev pub module_items : List Item
-module_items =
-    I.Atom ∷ I.Symbol S.OpenBracket ∷ I.Maybe (P.Items O.FunctionName C.Zero) ∷ I.Symbol S.CloseBracket
+-- name [ exports ] attributes [ attributes ] definitions end
+abbrev pub module_rest : List Item
+module_rest =
+    I.Symbol S.OpenBracket ∷ I.Maybe (P.Items O.FunctionName C.Zero) ∷ I.Symbol S.CloseBracket
     ∷ I.Word W.Attributes ∷ I.Symbol S.OpenBracket ∷ I.Maybe P.Attributes ∷ I.Symbol S.CloseBracket
     ∷ I.Maybe P.Definitions ∷ I.Word W.End ∷ []
+
+abbrev pub module_items : List Item
+module_items = I.Atom ∷ module_rest
 
 -- what a token does where a part is to be read
 abbrev pub begin : Parts.Part → ℕ → TokenKind → List Entry → Reaction
