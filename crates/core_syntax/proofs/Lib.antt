@@ -3,3 +3,8 @@ mod Following
 mod Choosing
 mod Pieces
 mod PartForms
+mod ClauseForms
+mod ConstantForms
+mod BracketForms
+mod WordForms
+mod TreeForms

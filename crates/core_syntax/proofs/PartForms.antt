@@ -105,7 +105,7 @@ segment_follows s d es sh = (
     _,
     Other,
     λ t i. chosen_take _ _ _ _ _ (sym (is_paren t.kind) ∙ i.1),
-    (P.Segment s, suc d, _, a_segment s (suc d), λ t i. refl, λ b h now c. (_, Other, λ t i. refl, (P.Tree O.Note, suc d, _, a_tree O.Note (suc d), λ t i. refl, λ n k then m. (_, now, λ t i. refl, (now, λ t i. refl, tt))))),
+    (P.Segment s, suc d, _, a_segment s (suc d), λ t i. refl, λ b h now c. (_, Other, λ t i. refl, (P.Tree O.Note, suc d, _, a_tree O.Note (suc d), λ t i. refl, λ n k last m. (_, now, λ t i. refl, (now, λ t i. refl, tt))))),
   ),
   (
     λ x. put d (segment_items s) es,
@@ -149,7 +149,7 @@ module_follows d es sh = (
     _,
     Other,
     λ t i. chosen_take _ _ _ _ _ (sym (is_paren t.kind) ∙ i.1),
-    (P.Module, suc d, _, a_module (suc d), λ t i. refl, λ b h now c. (_, Other, λ t i. refl, (P.Tree O.Note, suc d, _, a_tree O.Note (suc d), λ t i. refl, λ n k then m. (_, now, λ t i. refl, (now, λ t i. refl, tt))))),
+    (P.Module, suc d, _, a_module (suc d), λ t i. refl, λ b h now c. (_, Other, λ t i. refl, (P.Tree O.Note, suc d, _, a_tree O.Note (suc d), λ t i. refl, λ n k last m. (_, now, λ t i. refl, (now, λ t i. refl, tt))))),
   ),
   (
     put d module_items es,

@@ -46,7 +46,6 @@ leaf_weight SegmentValue = 0
 leaf_weight Variable = 0
 leaf_weight FunctionName = 0
 leaf_weight Atom = 0
-leaf_weight Fun = 0
 leaf_weight _ = 1
 
 -- what a variable and a bracket count at least: in a key nothing
