@@ -8,3 +8,5 @@ mod ConstantForms
 mod BracketForms
 mod WordForms
 mod TreeForms
+mod Names
+mod Words

@@ -280,18 +280,18 @@ takes_flag (K.Atom a) = is_flag (T.atom a)
 takes_flag (K.Symbol x) = is_open_paren x
 takes_flag _ = false
 
--- ( part -| note )
-abbrev pub noted_part : Parts.Part → (weight depth : ℕ) → List Entry → List Entry
-noted_part p w d es = at (suc d) (I.Part p) ∷ at (suc (w + d)) I.Noted ∷ es
+-- what is to be read behind the first token of such a part, whose depth is its own: ( part -| note ), [ flags ]
+abbrev pub constant_next : Parts.Part → (own depth : ℕ) → TokenKind → List Entry → List Entry
+constant_next p own d (K.Symbol S.OpenParen) es = at (suc d) (I.Part p) ∷ at own I.Noted ∷ es
+constant_next p own d (K.Symbol S.OpenBracket) es = at (suc d) I.FlagsRest ∷ es
+constant_next p own d _ es = es
 
--- behind the first token of such a part
-abbrev pub constant_next : Parts.Part → (weight depth : ℕ) → TokenKind → List Entry → List Entry
-constant_next p w d (K.Symbol S.OpenParen) es = noted_part p w d es
-constant_next p w d (K.Symbol S.OpenBracket) es = at (suc d) I.FlagsRest ∷ es
-constant_next p w d _ es = es
+-- such a part
+abbrev pub constant : Parts.Part → Bool → (own depth : ℕ) → TokenKind → List Entry → Shape → Reaction
+constant p b own d k es sh = on_test b own (constant_next p own d k es) sh
 
 abbrev pub flag : ℕ → TokenKind → List Entry → Reaction
-flag d k es = on_test (takes_flag k) (constant_depth d k) (constant_next P.Flag 1 d k es) Other
+flag d k es = constant P.Flag (takes_flag k) (constant_depth d k) d k es Other
 
 -- ---- the other parts
 
@@ -365,11 +365,10 @@ begin P.Attributes d k es =
 begin P.Module d k es =
     choose (is_symbol S.OpenParen k) (taken (suc d) (put (suc d) (I.Part P.Module ∷ I.Noted ∷ []) es) Other)
     (on_test (is_word W.Module k) d (put d module_items es) Other)
-begin P.Value d k es = on_test (takes_value k) (constant_depth d k) (constant_next P.Value 1 d k es) Other
-begin P.Size d k es = on_test (takes_size k) (constant_depth d k) (constant_next P.Size 1 d k es) (size_shape k)
-begin (P.Unit n) d k es =
-    on_test (takes_unit n k) (constant_depth d k) (constant_next (P.Unit n) 1 d k es) Other
-begin P.Kind d k es = on_test (takes_kind k) (kind_depth d k) (constant_next P.Kind 0 d k es) Other
-begin P.Flags d k es = on_test (takes_flags k) (constant_depth d k) (constant_next P.Flags 1 d k es) Other
+begin P.Value d k es = constant P.Value (takes_value k) (constant_depth d k) d k es Other
+begin P.Size d k es = constant P.Size (takes_size k) (constant_depth d k) d k es (size_shape k)
+begin (P.Unit n) d k es = constant (P.Unit n) (takes_unit n k) (constant_depth d k) d k es Other
+begin P.Kind d k es = constant P.Kind (takes_kind k) (kind_depth d k) d k es Other
+begin P.Flags d k es = constant P.Flags (takes_flags k) (constant_depth d k) d k es Other
 begin P.Flag d k es = flag d k es
 begin P.FlagItems d k es = flag d k (at d I.MoreFlags ∷ es)

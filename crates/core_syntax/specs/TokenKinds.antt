@@ -1,5 +1,5 @@
 -- What a token is.
-use Rattle.std.specs.Prelude.{◌+◌, Bool, true, false, ◌&&◌, leb, pos}
+use Rattle.std.specs.Prelude.{ℕ, ◌+◌, List, Bool, true, false, ◌&&◌, leb, pos}
 use Rattle.core_lex.specs.declared.token.Token.{Token}
 use Rattle.core_lex.specs.declared.token.TokenKind.{TokenKind}
 use Rattle.core_lex.specs.declared.token.TokenKind.TheVariants.{Word, Symbol, Atom, Number, Bad, End}
@@ -7,7 +7,9 @@ use Rattle.core_lex.specs.declared.token.Word as Words
 use Rattle.core_lex.specs.declared.token.Word.TheVariants as W
 use Rattle.core_lex.specs.declared.token.Symbol as Symbols
 use Rattle.core_lex.specs.declared.token.Symbol.TheVariants as S
-use Rattle.core_form.specs.SourceTree.{is_arity}
+use Rattle.std.specs.List.{list_all}
+use Rattle.core_chars.specs.Characters.{is_capital, is_name_char}
+use Rattle.core_form.specs.SourceTree.{is_variable_name, is_arity}
 
 abbrev pub same_symbol : Symbols.Symbol → Symbols.Symbol → Bool
 same_symbol S.Arrow S.Arrow = true
@@ -108,3 +110,13 @@ opens (Symbol s) = is_symbol_open s
 opens Bad = false
 opens End = false
 opens _ = true
+
+-- what a variable goes on with: a capital letter, and then characters of names
+abbrev pub goes_on : (begun : Bool) → ℕ → Bool
+goes_on true c = is_name_char c
+goes_on false c = is_capital c
+
+-- the characters that are left of a variable
+abbrev pub is_name_rest : (begun : Bool) → List ℕ → Bool
+is_name_rest true cs = list_all is_name_char cs
+is_name_rest false cs = is_variable_name cs

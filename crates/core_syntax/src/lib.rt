@@ -1,6 +1,10 @@
 #![tactic(auto)]
 
+pub mod constants;
 pub mod item;
+pub mod kinds;
 pub mod outcome;
+pub mod parts;
 pub mod sort;
 pub mod stack;
+pub mod trees;

@@ -1,5 +1,5 @@
 // What a token does.
-ghost use Rattle.std.specs.Prelude.{◌≡◌, IfOk, OnOk};
+ghost use Rattle.std.specs.Prelude.{◌≡◌, ◌≤◌, suc, IfOk};
 ghost use Rattle.core_syntax.specs.Beginnings.{on_test, put, taken};
 ghost use Rattle.core_syntax.specs.Reactions.{Tells};
 
@@ -36,4 +36,12 @@ pub fn take(
     }
     stack.put(depth, items)?;
     Ok(Outcome::Taken(shape))
+}
+
+/// One deeper.
+pub fn deeper(depth: u32) -> u32
+    requires { depth ≤ 4000 }
+    ensures { result ≡ suc depth }
+{
+    1 + depth
 }

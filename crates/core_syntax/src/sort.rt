@@ -1,7 +1,7 @@
 // What the grammar wants at a point of the text, and what it takes there.
-ghost use Rattle.std.specs.Prelude.{◌≡◌};
+ghost use Rattle.std.specs.Prelude.{◌≡◌, ◌≤◌};
 ghost use Rattle.core_grammar.specs.Standing.{takes_variable, takes_constant, takes_integer, takes_atom, takes_list, takes_name, takes_fun, takes_expression};
-ghost use Rattle.core_syntax.specs.Sorts.{sort_of};
+ghost use Rattle.core_syntax.specs.Sorts.{sort_of, inner, of_items, of_keys, of_values, leaf_weight, open_weight};
 
 /// An expression, a pattern, a constant, what an annotation holds, a key or a size in a pattern, the value of a segment
 /// there, a variable, a function's name, an atom, a `fun`.
@@ -117,6 +117,108 @@ impl Sort {
             | Sort::FunctionName
             | Sort::Atom
             | Sort::Fun => false,
+        }
+    }
+
+    /// In an annotation's brackets.
+    pub fn inner(self) -> Sort
+        ensures { result ≡ inner self }
+    {
+        match self {
+            Sort::SegmentValue => Sort::Variable,
+            Sort::Expression
+            | Sort::Pattern
+            | Sort::Constant
+            | Sort::Note
+            | Sort::Key
+            | Sort::Variable
+            | Sort::FunctionName
+            | Sort::Atom
+            | Sort::Fun => self,
+        }
+    }
+
+    /// The items of lists and tuples, and the values of pairs.
+    pub fn of_items(self) -> Sort
+        ensures { result ≡ of_items self }
+    {
+        match self {
+            Sort::Expression | Sort::Pattern => self,
+            Sort::Constant
+            | Sort::Note
+            | Sort::Key
+            | Sort::SegmentValue
+            | Sort::Variable
+            | Sort::FunctionName
+            | Sort::Atom
+            | Sort::Fun => Sort::Constant,
+        }
+    }
+
+    /// The keys of pairs, and the sizes of segments.
+    pub fn of_keys(self) -> Sort
+        ensures { result ≡ of_keys self }
+    {
+        match self {
+            Sort::Expression => Sort::Expression,
+            Sort::Pattern => Sort::Key,
+            Sort::Constant
+            | Sort::Note
+            | Sort::Key
+            | Sort::SegmentValue
+            | Sort::Variable
+            | Sort::FunctionName
+            | Sort::Atom
+            | Sort::Fun => Sort::Constant,
+        }
+    }
+
+    /// The values of segments.
+    pub fn of_values(self) -> Sort
+        ensures { result ≡ of_values self }
+    {
+        match self {
+            Sort::Expression => Sort::Expression,
+            Sort::Pattern => Sort::SegmentValue,
+            Sort::Constant
+            | Sort::Note
+            | Sort::Key
+            | Sort::SegmentValue
+            | Sort::Variable
+            | Sort::FunctionName
+            | Sort::Atom
+            | Sort::Fun => Sort::Constant,
+        }
+    }
+
+    /// What an atom and an integer count.
+    pub fn leaf_weight(self) -> u32
+        ensures value { result ≡ leaf_weight self }
+        ensures bound { result ≤ 1 }
+    {
+        match self {
+            Sort::Expression
+            | Sort::Pattern
+            | Sort::Constant
+            | Sort::Note
+            | Sort::Key
+            | Sort::Fun => 1,
+            Sort::SegmentValue | Sort::Variable | Sort::FunctionName | Sort::Atom => 0,
+        }
+    }
+
+    /// What a variable and a bracket count at least: in a key nothing.
+    pub fn open_weight(self) -> u32
+        ensures value { result ≡ open_weight self }
+        ensures bound { result ≤ 1 }
+    {
+        match self {
+            Sort::Expression | Sort::Pattern | Sort::Constant | Sort::Note | Sort::Fun => 1,
+            Sort::Key
+            | Sort::SegmentValue
+            | Sort::Variable
+            | Sort::FunctionName
+            | Sort::Atom => 0,
         }
     }
 }

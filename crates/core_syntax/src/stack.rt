@@ -7,7 +7,7 @@ use erl_base::{List, NoMemory};
 use std::alloc::Global;
 use std::marker::Model;
 
-/// Contracts see the items with the next one first. None is deeper than a text may nest.
+/// Contracts see the items with the next one first. None is more than one deeper than a text may nest.
 #[derive(Debug, Drop)]
 pub struct Stack {
     entries: List<Entry>,
@@ -38,13 +38,13 @@ impl Stack {
     /// The next item.
     pub fn pop(&mut self) -> Option<Entry>
         ensures is { MatchOption result ((self.old ≡ []) × (self.new ≡ [])) (λ top. self.old ≡ top ∷ self.new) }
-        ensures shallow { IfSome result (λ top. top.depth ≤ 2000) }
+        ensures shallow { IfSome result (λ top. top.depth ≤ 2001) }
     {
         self.entries.pop()
     }
 
     pub fn push(&mut self, depth: u32, item: Item) -> Result<(), NoMemory>
-        requires { depth ≤ 2000 }
+        requires { depth ≤ 2001 }
         ensures { OnOk result (self.new ≡ at depth item ∷ self.old) }
     {
         self.entries.push(Entry { item, depth })
@@ -52,7 +52,7 @@ impl Stack {
 
     /// Items before the others, the first of them next.
     pub fn put(&mut self, depth: u32, items: &[Item]) -> Result<(), NoMemory>
-        requires { depth ≤ 2000 }
+        requires { depth ≤ 2001 }
         ensures { OnOk result (self.new ≡ put depth items.now self.old) }
     {
         for i in 0..items.len() {
