@@ -33,7 +33,7 @@ use Rattle.core_syntax.specs.TokenKinds.{is_symbol, is_atom}
 use Rattle.core_syntax.specs.Beginnings.{on_test, at, put, external_rest, local_rest, fun_next, arguments, form_next}
 use Rattle.core_syntax.specs.Reactions.{react, catches}
 use Rattle.core_syntax.proofs.Choosing as Choosing
-use Rattle.core_syntax.proofs.Choosing.{is_paren, chosen, not_chosen, kept, left_out, retest}
+use Rattle.core_syntax.proofs.Choosing.{is_paren, chosen_take, not_chosen, kept, left_out, retest}
 use Rattle.core_syntax.proofs.Following.{Follows, a_tree, items, group, a_clause, clauses, definitions, counted, group_counted}
 use Rattle.core_syntax.proofs.Pieces.{at_atom}
 use Rattle.core_syntax.proofs.BracketForms.{other_counts}
@@ -91,7 +91,7 @@ external_follows s d p h es known start sh q = (
 fun_follows : (s : Sort) (d : ℕ) (p : Place) (h : T.takes_word (sort_of s) W.Fun ≡ true) (es : List Entry)
     → Follows (P.Tree s) es (fun_plan (sort_of s) d p h) (λ x. ⊤) (fun_next s (suc d) es) Other
 fun_follows O.Expression d p h es = (
-  local_follows d p es _ (at (suc d) I.FunRest ∷ es) Other (λ t i. chosen _ _ _ (sym (is_paren t.kind) ∙ i.1)),
+  local_follows d p es _ (at (suc d) I.FunRest ∷ es) Other (λ t i. chosen_take _ _ _ _ _ (sym (is_paren t.kind) ∙ i.1)),
   external_follows O.Expression d p refl es _ (at (suc d) I.FunRest ∷ es) Other (λ t i. not_chosen _ _ _ (sym (is_paren t.kind) ∙ i.1)),
 )
 fun_follows O.Fun d p h es = (_, Other, λ t i. refl, ((P.Items O.Variable C.Zero, suc d, _, items O.Variable C.Zero (suc d), λ t i. kept _ _ _ _ i.1, λ b h now c. (_, Other, λ t i. refl, (_, Other, λ t i. refl, (P.Tree O.Expression, suc d, _, a_tree O.Expression (suc d), λ t i. refl, λ b h now c. (now, λ t i. refl, tt))))), (_, Other, λ t i. left_out _ _ _ _ i.1, (_, Other, λ t i. refl, (P.Tree O.Expression, suc d, _, a_tree O.Expression (suc d), λ t i. refl, λ b h now c. (now, λ t i. refl, tt))))))

@@ -13,6 +13,7 @@ use Rattle.core_syntax.specs.declared.item.Count as Counts
 use Rattle.core_syntax.specs.declared.item.Count.TheVariants as C
 use Rattle.core_syntax.specs.declared.item.Shape.{Shape}
 use Rattle.core_syntax.specs.declared.item.Shape.TheVariants.{Other, Variable, Clause, Counted, Size}
+use Rattle.core_syntax.specs.declared.item.Part as Parts
 use Rattle.core_syntax.specs.declared.item.Part.TheVariants as P
 use Rattle.core_syntax.specs.declared.item.Item.{Item}
 use Rattle.core_syntax.specs.declared.item.Item.TheVariants as I
@@ -97,6 +98,27 @@ abbrev pub unit_of : Shape → Item
 unit_of (Size n) = I.Part (P.Unit n)
 unit_of _ = I.Part (P.Unit 0)
 
+-- `(` or an atom behind `fun`
+abbrev pub fun_rest : ℕ → TokenKind → List Entry → Reaction
+fun_rest d k es =
+    choose (is_symbol S.OpenParen k) (taken d (put d local_rest es) Other)
+    (on_test (is_atom k) d (put d external_rest es) Other)
+
+-- items or none behind `[`
+abbrev pub list_rest : Sort → ℕ → TokenKind → List Entry → Reaction
+list_rest s d k es =
+    choose (opens k) (begin (P.Items s C.Zero) d k (at d (I.ListEnd s) ∷ es)) (on_symbol S.CloseBracket d k es)
+
+abbrev pub flags_rest : ℕ → TokenKind → List Entry → Reaction
+flags_rest d k es =
+    choose (opens k) (begin P.FlagItems d k (at d I.FlagsEnd ∷ es)) (on_symbol S.CloseBracket d k es)
+
+-- a tail or none behind them
+abbrev pub list_end : Parts.Part → ℕ → TokenKind → List Entry → Reaction
+list_end p d k es =
+    choose (is_symbol S.Bar k) (taken d (put d (I.Part p ∷ I.Symbol S.CloseBracket ∷ []) es) Other)
+    (on_symbol S.CloseBracket d k es)
+
 -- what a token does where this item is to be read
 abbrev pub at_item : Token → Item → ℕ → Shape → List Entry → Reaction
 at_item t (I.Part p) d sh es = begin p d t.kind es
@@ -115,16 +137,9 @@ at_item t I.Alias d sh es =
     on_test (is_symbol S.Equals t.kind) (suc d)
     (put (suc d) (I.Part (P.Tree O.Pattern) ∷ I.Becomes Other ∷ []) es) Other
 at_item t I.NameRest d sh es = on_test (is_symbol S.Slash t.kind) d (put d (I.Arity ∷ []) es) Other
-at_item t I.FunRest d sh es =
-    choose (is_symbol S.OpenParen t.kind) (on_symbol S.OpenParen d t.kind (put d local_rest es))
-    (on_test (is_atom t.kind) d (put d external_rest es) Other)
-at_item t (I.ListRest s) d sh es =
-    choose (opens t.kind) (begin (P.Items s C.Zero) d t.kind (at d (I.ListEnd s) ∷ es))
-    (on_symbol S.CloseBracket d t.kind es)
-at_item t (I.ListEnd s) d sh es =
-    choose (is_symbol S.Bar t.kind)
-    (taken d (put d (I.Part (P.Tree s) ∷ I.Symbol S.CloseBracket ∷ []) es) Other)
-    (on_symbol S.CloseBracket d t.kind es)
+at_item t I.FunRest d sh es = fun_rest d t.kind es
+at_item t (I.ListRest s) d sh es = list_rest s d t.kind es
+at_item t (I.ListEnd s) d sh es = list_end (P.Tree s) d t.kind es
 at_item t (I.PairArrow s) d sh es =
     on_test (pair_arrow s t.kind) d (put d (I.Part (P.Tree (of_items s)) ∷ I.MorePairs s ∷ []) es) Other
 at_item t (I.MapEnd s) d sh es = map_end s d t.kind es
@@ -147,12 +162,8 @@ at_item t I.DefinitionRest d sh es =
     on_test (is_symbol S.Equals t.kind) (suc d)
     (at (suc d) (I.Part (P.Tree O.Fun)) ∷ at d (I.Maybe P.Definitions) ∷ es) Other
 at_item t I.UnitNext d sh es = on_test (is_symbol S.Comma t.kind) d (put d (unit_of sh ∷ []) es) Other
-at_item t I.FlagsRest d sh es =
-    choose (opens t.kind) (begin P.FlagItems d t.kind (at d I.FlagsEnd ∷ es)) (on_symbol S.CloseBracket d t.kind es)
-at_item t I.FlagsEnd d sh es =
-    choose (is_symbol S.Bar t.kind)
-    (taken d (put d (I.Part P.Flags ∷ I.Symbol S.CloseBracket ∷ []) es) Other)
-    (on_symbol S.CloseBracket d t.kind es)
+at_item t I.FlagsRest d sh es = flags_rest d t.kind es
+at_item t I.FlagsEnd d sh es = list_end P.Flags d t.kind es
 
 -- where the item on top is passed, the next one
 abbrev pub on_pass : Option Shape → Reaction → (Shape → Reaction) → Reaction
