@@ -10,3 +10,4 @@ mod WordForms
 mod TreeForms
 mod Names
 mod Words
+mod Accepting

@@ -52,13 +52,12 @@ starts_as (call v g) p rest known then es next sh now q i f =
     (f.0, f.1, f.2, f.3, λ t j. q t j ∙ f.4 t (i t.kind j), f.5)
 starts_as (bracket v s g) p rest known then es next sh now q i f =
     (f.0, f.1, f.2, f.3, f.4, λ t j. q t j ∙ f.5 t (i t.kind j), f.6)
-starts_as (if_next c P Q) p rest known then es next sh now q i f =
-    (
-      starts_as P p rest (λ x. known x × (c x ≡ true)) (λ x. then x × (c x ≡ true)) es next sh now (λ t j. q t j.0)
-          (λ x j. (i x j.0, j.1)) f.0,
-      starts_as Q p rest (λ x. known x × (c x ≡ false)) (λ x. then x × (c x ≡ false)) es next sh now (λ t j. q t j.0)
-          (λ x j. (i x j.0, j.1)) f.1,
-    )
+starts_as (if_next c P Q) p rest known then es next sh now q i f = (
+  starts_as P p rest (λ x. known x × (c x ≡ true)) (λ x. then x × (c x ≡ true)) es next sh now (λ t j. q t j.0)
+      (λ x j. (i x j.0, j.1)) f.0,
+  starts_as Q p rest (λ x. known x × (c x ≡ false)) (λ x. then x × (c x ≡ false)) es next sh now (λ t j. q t j.0)
+      (λ x j. (i x j.0, j.1)) f.1,
+)
 
 -- Parts of a sort's parts.
 

@@ -3,3 +3,4 @@ pub mod TokenKinds
 pub mod Beginnings
 pub mod Reactions
 pub mod Shallow
+pub mod Judged

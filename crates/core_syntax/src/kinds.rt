@@ -215,7 +215,11 @@ fn is_name_char(c: char) -> bool
 fn goes_on(begun: bool, c: char) -> bool
     ensures { result ≡ goes_on begun c }
 {
-    if begun { is_name_char(c) } else { is_capital(c) }
+    if begun {
+        is_name_char(c)
+    } else {
+        is_capital(c)
+    }
 }
 
 pub fn is_variable_name(name: &Name) -> bool

@@ -103,18 +103,19 @@ fn group(stack: &mut Stack, depth: u32, kind: &TokenKind) -> Result<Outcome, NoM
 {
     if is_symbol(Symbol::OpenAngle, kind) {
         let variables = Item::Maybe(Part::Items(Sort::Variable, Count::Zero));
-        return take(stack, true, depth, &[variables, Item::CloseGroup], Shape::Other);
+        return take(
+            stack,
+            true,
+            depth,
+            &[variables, Item::CloseGroup],
+            Shape::Other,
+        );
     }
     stack.push(depth, Item::Becomes(Shape::Counted(Count::One)))?;
     tree(stack, Sort::Variable, depth, kind)
 }
 
-fn segment(
-    stack: &mut Stack,
-    sort: Sort,
-    depth: u32,
-    kind: &TokenKind,
-) -> Result<Outcome, NoMemory>
+fn segment(stack: &mut Stack, sort: Sort, depth: u32, kind: &TokenKind) -> Result<Outcome, NoMemory>
     requires { depth ≤ 2001 }
     ensures { IfOk result (λ told. Tells (segment sort depth kind.now stack.old) told stack.new) }
 {
@@ -159,8 +160,20 @@ fn loose_segment(stack: &mut Stack, sort: Sort, depth: u32) -> Result<(), NoMemo
     let kind = Item::Part(Part::Tree(Sort::Atom));
     stack.put(depth, &[comma, constant, Item::Symbol(Symbol::CloseParen)])?;
     stack.put(depth, &[comma, constant, comma, kind])?;
-    stack.put(depth, &[Item::Symbol(Symbol::OpenParen), Item::Part(Part::Tree(sort.of_keys()))])?;
-    stack.put(depth, &[Item::Part(Part::Tree(sort.of_values())), Item::Symbol(Symbol::CloseAngle)])
+    stack.put(
+        depth,
+        &[
+            Item::Symbol(Symbol::OpenParen),
+            Item::Part(Part::Tree(sort.of_keys())),
+        ],
+    )?;
+    stack.put(
+        depth,
+        &[
+            Item::Part(Part::Tree(sort.of_values())),
+            Item::Symbol(Symbol::CloseAngle),
+        ],
+    )
 }
 
 // The same of a constant: all of it tells its bits.
@@ -172,8 +185,14 @@ fn strict_segment(stack: &mut Stack, depth: u32) -> Result<(), NoMemory>
     let flags = Item::Part(Part::Flags);
     stack.put(depth, &[comma, flags, Item::Symbol(Symbol::CloseParen)])?;
     stack.put(depth, &[Item::UnitNext, comma, Item::Part(Part::Kind)])?;
-    stack.put(depth, &[Item::Symbol(Symbol::OpenParen), Item::Part(Part::Size)])?;
-    stack.put(depth, &[Item::Part(Part::Value), Item::Symbol(Symbol::CloseAngle)])
+    stack.put(
+        depth,
+        &[Item::Symbol(Symbol::OpenParen), Item::Part(Part::Size)],
+    )?;
+    stack.put(
+        depth,
+        &[Item::Part(Part::Value), Item::Symbol(Symbol::CloseAngle)],
+    )
 }
 
 // Patterns in angle brackets, an annotated clause or pattern, a pattern.
@@ -203,7 +222,14 @@ fn angled_head(stack: &mut Stack, depth: u32) -> Result<Outcome, NoMemory>
     }
     stack.push(depth, Item::Becomes(Shape::Clause))?;
     stack.put(inner, &GUARDED)?;
-    stack.put(inner, &[patterns, Item::Symbol(Symbol::CloseAngle), Item::Word(Word::When)])?;
+    stack.put(
+        inner,
+        &[
+            patterns,
+            Item::Symbol(Symbol::CloseAngle),
+            Item::Word(Word::When),
+        ],
+    )?;
     Ok(Outcome::Taken(Shape::Other))
 }
 
@@ -234,7 +260,10 @@ fn attributes(stack: &mut Stack, depth: u32, kind: &TokenKind) -> Result<Outcome
     ensures { IfOk result (λ told. Tells (begin P.Attributes depth kind.now stack.old) told stack.new) }
 {
     let value = Item::Part(Part::Tree(Sort::Constant));
-    stack.put(depth, &[Item::Symbol(Symbol::Equals), value, Item::MoreAttributes])?;
+    stack.put(
+        depth,
+        &[Item::Symbol(Symbol::Equals), value, Item::MoreAttributes],
+    )?;
     tree(stack, Sort::Atom, depth, kind)
 }
 
@@ -246,7 +275,13 @@ fn module(stack: &mut Stack, depth: u32, kind: &TokenKind) -> Result<Outcome, No
         let inside = [Item::Part(Part::Module), Item::Noted];
         return take(stack, true, deeper(depth), &inside, Shape::Other);
     }
-    take(stack, is_word(Word::Module, kind), depth, &MODULE, Shape::Other)
+    take(
+        stack,
+        is_word(Word::Module, kind),
+        depth,
+        &MODULE,
+        Shape::Other,
+    )
 }
 
 // Parts of a segment that is a constant.
@@ -262,14 +297,46 @@ fn begin_constant(
 {
     let own = constant_depth(depth, kind);
     match part {
-        Part::Value => constant(stack, part, takes_value(kind), own, depth, kind, Shape::Other),
+        Part::Value => constant(
+            stack,
+            part,
+            takes_value(kind),
+            own,
+            depth,
+            kind,
+            Shape::Other,
+        ),
         Part::Size => size(stack, depth, kind),
-        Part::Unit(n) => constant(stack, part, takes_unit(n, kind), own, depth, kind, Shape::Other),
+        Part::Unit(n) => constant(
+            stack,
+            part,
+            takes_unit(n, kind),
+            own,
+            depth,
+            kind,
+            Shape::Other,
+        ),
         Part::Kind => {
             let own = kind_depth(depth, kind);
-            constant(stack, part, takes_kind(kind), own, depth, kind, Shape::Other)
+            constant(
+                stack,
+                part,
+                takes_kind(kind),
+                own,
+                depth,
+                kind,
+                Shape::Other,
+            )
         }
-        Part::Flags => constant(stack, part, takes_flags(kind), own, depth, kind, Shape::Other),
+        Part::Flags => constant(
+            stack,
+            part,
+            takes_flags(kind),
+            own,
+            depth,
+            kind,
+            Shape::Other,
+        ),
         Part::Flag => flag(stack, depth, kind),
         Part::FlagItems => {
             stack.push(depth, Item::MoreFlags)?;
@@ -295,5 +362,13 @@ fn flag(stack: &mut Stack, depth: u32, kind: &TokenKind) -> Result<Outcome, NoMe
     ensures { IfOk result (λ told. Tells (flag depth kind.now stack.old) told stack.new) }
 {
     let own = constant_depth(depth, kind);
-    constant(stack, Part::Flag, takes_flag(kind), own, depth, kind, Shape::Other)
+    constant(
+        stack,
+        Part::Flag,
+        takes_flag(kind),
+        own,
+        depth,
+        kind,
+        Shape::Other,
+    )
 }

@@ -142,12 +142,7 @@ fn more(stack: &mut Stack, comma: bool, depth: u32, part: Part) -> Result<Outcom
 }
 
 // Annotations, clauses and definitions.
-fn around(
-    stack: &mut Stack,
-    token: &Token,
-    entry: Entry,
-    shape: Shape,
-) -> Result<Outcome, NoMemory>
+fn around(stack: &mut Stack, token: &Token, entry: Entry, shape: Shape) -> Result<Outcome, NoMemory>
     requires depth { entry.depth ≤ 2001 }
     requires family { IsAround entry.item }
     ensures { IfOk result (λ told. Tells (at_item token.now entry.item entry.depth shape stack.old) told stack.new) }
@@ -161,31 +156,50 @@ fn around(
         Item::Close(now) => take(stack, is_symbol(Symbol::CloseParen, kind), depth, &[], now),
         Item::HeadEnd => {
             stack.push(depth, Item::Becomes(Shape::Clause))?;
-            take(stack, is_word(Word::When, kind), deeper(depth), &GUARDED, Shape::Other)
+            take(
+                stack,
+                is_word(Word::When, kind),
+                deeper(depth),
+                &GUARDED,
+                Shape::Other,
+            )
         }
         Item::ClauseEnd => {
-            take(stack, is_word(Word::When, kind), deeper(depth), &GUARDED, Shape::Other)
+            take(
+                stack,
+                is_word(Word::When, kind),
+                deeper(depth),
+                &GUARDED,
+                Shape::Other,
+            )
         }
         Item::DefinitionRest => {
             stack.push(depth, Item::Maybe(Part::Definitions))?;
             let function = [Item::Part(Part::Tree(Sort::Fun))];
-            take(stack, is_symbol(Symbol::Equals, kind), deeper(depth), &function, Shape::Other)
+            take(
+                stack,
+                is_symbol(Symbol::Equals, kind),
+                deeper(depth),
+                &function,
+                Shape::Other,
+            )
         }
         _ => unreachable!(),
     }
 }
 
 // `-|` behind what is annotated, and its note.
-fn note(
-    stack: &mut Stack,
-    depth: u32,
-    shape: Shape,
-    kind: &TokenKind,
-) -> Result<Outcome, NoMemory>
+fn note(stack: &mut Stack, depth: u32, shape: Shape, kind: &TokenKind) -> Result<Outcome, NoMemory>
     ensures { IfOk result (λ told. Tells (note depth shape kind.now stack.old) told stack.new) }
 {
     let items = [Item::Part(Part::Tree(Sort::Note)), Item::Close(shape)];
-    take(stack, is_symbol(Symbol::AnnotationBar, kind), depth, &items, Shape::Other)
+    take(
+        stack,
+        is_symbol(Symbol::AnnotationBar, kind),
+        depth,
+        &items,
+        Shape::Other,
+    )
 }
 
 // A key that is a variable counts nothing.
@@ -229,12 +243,7 @@ fn head_note(
 
 // ---- in trees and in flags
 
-fn inside(
-    stack: &mut Stack,
-    token: &Token,
-    entry: Entry,
-    shape: Shape,
-) -> Result<Outcome, NoMemory>
+fn inside(stack: &mut Stack, token: &Token, entry: Entry, shape: Shape) -> Result<Outcome, NoMemory>
     requires depth { entry.depth ≤ 2001 }
     requires family { IsInside entry.item }
     ensures { IfOk result (λ told. Tells (at_item token.now entry.item entry.depth shape stack.old) told stack.new) }
@@ -243,8 +252,17 @@ fn inside(
     let kind = &token.kind;
     match item {
         Item::Alias => {
-            let items = [Item::Part(Part::Tree(Sort::Pattern)), Item::Becomes(Shape::Other)];
-            take(stack, is_symbol(Symbol::Equals, kind), deeper(depth), &items, Shape::Other)
+            let items = [
+                Item::Part(Part::Tree(Sort::Pattern)),
+                Item::Becomes(Shape::Other),
+            ];
+            take(
+                stack,
+                is_symbol(Symbol::Equals, kind),
+                deeper(depth),
+                &items,
+                Shape::Other,
+            )
         }
         Item::NameRest => {
             let slash = is_symbol(Symbol::Slash, kind);
@@ -254,11 +272,20 @@ fn inside(
         Item::ListRest(sort) => list_rest(stack, sort, depth, kind),
         Item::ListEnd(sort) => list_end(stack, Part::Tree(sort), depth, kind),
         Item::PairArrow(sort) => {
-            let items = [Item::Part(Part::Tree(sort.of_items())), Item::MorePairs(sort)];
+            let items = [
+                Item::Part(Part::Tree(sort.of_items())),
+                Item::MorePairs(sort),
+            ];
             take(stack, pair_arrow(sort, kind), depth, &items, Shape::Other)
         }
         Item::MapEnd(sort) => map_end(stack, sort, depth, kind),
-        Item::CloseGroup => take(stack, is_symbol(Symbol::CloseAngle, kind), depth, &[], shape),
+        Item::CloseGroup => take(
+            stack,
+            is_symbol(Symbol::CloseAngle, kind),
+            depth,
+            &[],
+            shape,
+        ),
         Item::CatchArrow => {
             let holds = catches(shape) && is_symbol(Symbol::Arrow, kind);
             take(stack, holds, depth, &[], Shape::Other)
@@ -295,7 +322,13 @@ fn list_rest(
         stack.push(depth, Item::ListEnd(sort))?;
         return begin(stack, Part::Items(sort, Count::Zero), depth, kind);
     }
-    take(stack, is_symbol(Symbol::CloseBracket, kind), depth, &[], Shape::Other)
+    take(
+        stack,
+        is_symbol(Symbol::CloseBracket, kind),
+        depth,
+        &[],
+        Shape::Other,
+    )
 }
 
 // A tail or none behind items.
@@ -311,7 +344,13 @@ fn list_end(
         let items = [Item::Part(tail), Item::Symbol(Symbol::CloseBracket)];
         return take(stack, true, depth, &items, Shape::Other);
     }
-    take(stack, is_symbol(Symbol::CloseBracket, kind), depth, &[], Shape::Other)
+    take(
+        stack,
+        is_symbol(Symbol::CloseBracket, kind),
+        depth,
+        &[],
+        Shape::Other,
+    )
 }
 
 fn flags_rest(stack: &mut Stack, depth: u32, kind: &TokenKind) -> Result<Outcome, NoMemory>
@@ -322,7 +361,13 @@ fn flags_rest(stack: &mut Stack, depth: u32, kind: &TokenKind) -> Result<Outcome
         stack.push(depth, Item::FlagsEnd)?;
         return begin(stack, Part::FlagItems, depth, kind);
     }
-    take(stack, is_symbol(Symbol::CloseBracket, kind), depth, &[], Shape::Other)
+    take(
+        stack,
+        is_symbol(Symbol::CloseBracket, kind),
+        depth,
+        &[],
+        Shape::Other,
+    )
 }
 
 // `=>` and `:=` in an expression, one of them elsewhere.
@@ -346,12 +391,7 @@ fn pair_arrow(sort: Sort, kind: &TokenKind) -> bool
 }
 
 // The base of a map, or none.
-fn map_end(
-    stack: &mut Stack,
-    sort: Sort,
-    depth: u32,
-    kind: &TokenKind,
-) -> Result<Outcome, NoMemory>
+fn map_end(stack: &mut Stack, sort: Sort, depth: u32, kind: &TokenKind) -> Result<Outcome, NoMemory>
     ensures { IfOk result (λ told. Tells (map_end sort depth kind.now stack.old) told stack.new) }
 {
     let close = is_symbol(Symbol::CloseMap, kind);

@@ -24,7 +24,8 @@ impl Sort {
         ensures { result ≡ takes_variable (sort_of self) }
     {
         match self {
-            Sort::Expression | Sort::Pattern | Sort::Key | Sort::SegmentValue | Sort::Variable => true,
+            Sort::Expression | Sort::Pattern | Sort::Key | Sort::SegmentValue | Sort::Variable =>
+                true,
             Sort::Constant | Sort::Note | Sort::FunctionName | Sort::Atom | Sort::Fun => false,
         }
     }
@@ -48,7 +49,8 @@ impl Sort {
         ensures { result ≡ takes_integer (sort_of self) }
     {
         match self {
-            Sort::Expression | Sort::Pattern | Sort::Constant | Sort::Key | Sort::SegmentValue => true,
+            Sort::Expression | Sort::Pattern | Sort::Constant | Sort::Key | Sort::SegmentValue =>
+                true,
             Sort::Note | Sort::Variable | Sort::FunctionName | Sort::Atom | Sort::Fun => false,
         }
     }
@@ -58,7 +60,8 @@ impl Sort {
     {
         match self {
             Sort::Expression | Sort::Pattern | Sort::Constant | Sort::Key | Sort::Atom => true,
-            Sort::Note | Sort::SegmentValue | Sort::Variable | Sort::FunctionName | Sort::Fun => false,
+            Sort::Note | Sort::SegmentValue | Sort::Variable | Sort::FunctionName | Sort::Fun =>
+                false,
         }
     }
 
@@ -67,7 +70,8 @@ impl Sort {
     {
         match self {
             Sort::Expression | Sort::Pattern | Sort::Constant | Sort::Note | Sort::Key => true,
-            Sort::SegmentValue | Sort::Variable | Sort::FunctionName | Sort::Atom | Sort::Fun => false,
+            Sort::SegmentValue | Sort::Variable | Sort::FunctionName | Sort::Atom | Sort::Fun =>
+                false,
         }
     }
 
@@ -214,11 +218,7 @@ impl Sort {
     {
         match self {
             Sort::Expression | Sort::Pattern | Sort::Constant | Sort::Note | Sort::Fun => 1,
-            Sort::Key
-            | Sort::SegmentValue
-            | Sort::Variable
-            | Sort::FunctionName
-            | Sort::Atom => 0,
+            Sort::Key | Sort::SegmentValue | Sort::Variable | Sort::FunctionName | Sort::Atom => 0,
         }
     }
 }

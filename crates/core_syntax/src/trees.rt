@@ -171,12 +171,7 @@ fn tree_shape(kind: &TokenKind) -> Shape
     }
 }
 
-fn tree_next(
-    stack: &mut Stack,
-    sort: Sort,
-    depth: u32,
-    kind: &TokenKind,
-) -> Result<(), NoMemory>
+fn tree_next(stack: &mut Stack, sort: Sort, depth: u32, kind: &TokenKind) -> Result<(), NoMemory>
     requires { tree_depth sort depth kind.now ≤ 2000 }
     ensures { OnOk result (stack.new ≡ tree_next sort depth kind.now stack.old) }
 {
@@ -260,12 +255,7 @@ fn noted_next(stack: &mut Stack, sort: Sort, depth: u32) -> Result<(), NoMemory>
     }
 }
 
-fn bracket_next(
-    stack: &mut Stack,
-    sort: Sort,
-    depth: u32,
-    symbol: Symbol,
-) -> Result<(), NoMemory>
+fn bracket_next(stack: &mut Stack, sort: Sort, depth: u32, symbol: Symbol) -> Result<(), NoMemory>
     requires { symbol_depth sort depth symbol ≤ 2000 }
     ensures { OnOk result (stack.new ≡ bracket_next sort depth symbol stack.old) }
 {
@@ -352,12 +342,7 @@ const ARGUMENTS: [Item; 3] = [
     Item::Symbol(Symbol::CloseParen),
 ];
 
-fn form_next(
-    stack: &mut Stack,
-    sort: Sort,
-    depth: u32,
-    word: Word,
-) -> Result<(), NoMemory>
+fn form_next(stack: &mut Stack, sort: Sort, depth: u32, word: Word) -> Result<(), NoMemory>
     requires { depth ≤ 2000 }
     ensures { OnOk result (stack.new ≡ form_next sort depth word stack.old) }
 {
@@ -368,7 +353,10 @@ fn form_next(
         }
         Word::Call => {
             stack.put(depth, &ARGUMENTS)?;
-            stack.put(depth, &[EXPRESSION, Item::Symbol(Symbol::Colon), EXPRESSION])
+            stack.put(
+                depth,
+                &[EXPRESSION, Item::Symbol(Symbol::Colon), EXPRESSION],
+            )
         }
         Word::Case => {
             let clauses = [Item::Part(Part::Clause), Item::Maybe(Part::Clauses)];
@@ -381,7 +369,10 @@ fn form_next(
         Word::Fun => fun_next(stack, sort, depth),
         Word::Let => {
             stack.put(depth, &[EXPRESSION, Item::Word(Word::In), EXPRESSION])?;
-            stack.put(depth, &[Item::Part(Part::Group), Item::Symbol(Symbol::Equals)])
+            stack.put(
+                depth,
+                &[Item::Part(Part::Group), Item::Symbol(Symbol::Equals)],
+            )
         }
         Word::Letrec => {
             let definitions = Item::Maybe(Part::Definitions);
@@ -392,8 +383,14 @@ fn form_next(
             stack.push(depth, Item::Atom)
         }
         Word::Receive => {
-            stack.put(depth, &[EXPRESSION, Item::Symbol(Symbol::Arrow), EXPRESSION])?;
-            stack.put(depth, &[Item::Maybe(Part::Clauses), Item::Word(Word::After)])
+            stack.put(
+                depth,
+                &[EXPRESSION, Item::Symbol(Symbol::Arrow), EXPRESSION],
+            )?;
+            stack.put(
+                depth,
+                &[Item::Maybe(Part::Clauses), Item::Word(Word::After)],
+            )
         }
         Word::Try => try_next(stack, depth),
         Word::After
@@ -411,7 +408,20 @@ fn try_next(stack: &mut Stack, depth: u32) -> Result<(), NoMemory>
     requires { depth ≤ 2000 }
     ensures { OnOk result (stack.new ≡ form_next Expression depth Try stack.old) }
 {
-    stack.put(depth, &[Item::Part(Part::Group), Item::CatchArrow, EXPRESSION])?;
-    stack.put(depth, &[Item::Symbol(Symbol::Arrow), EXPRESSION, Item::Word(Word::Catch)])?;
-    stack.put(depth, &[EXPRESSION, Item::Word(Word::Of), Item::Part(Part::Group)])
+    stack.put(
+        depth,
+        &[Item::Part(Part::Group), Item::CatchArrow, EXPRESSION],
+    )?;
+    stack.put(
+        depth,
+        &[
+            Item::Symbol(Symbol::Arrow),
+            EXPRESSION,
+            Item::Word(Word::Catch),
+        ],
+    )?;
+    stack.put(
+        depth,
+        &[EXPRESSION, Item::Word(Word::Of), Item::Part(Part::Group)],
+    )
 }
