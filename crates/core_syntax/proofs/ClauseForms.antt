@@ -40,15 +40,142 @@ head_end_follows : {k : List Sign → List Sign} (d : ℕ) (t : Tree) (h : Stand
     (e : (r : List Sign) → on true G.pattern (suc d) t r ≡ k r) (es : List Entry) (sh : Shape)
     → sh ≡ variable_shape (is_variable_like t)
     → Follows P.Head es (head_end d t h e) (λ x. ⊤) (at d I.HeadEnd ∷ es) sh
-head_end_follows d x h e es sh c = ((_, Other, λ t i. kept _ _ _ _ (sym (is_when t.kind) ∙ i.1), (P.Tree O.Expression, suc d, _, a_tree O.Expression (suc d), λ t i. refl, λ b h now c. (_, Other, λ t i. refl, (P.Tree O.Expression, suc d, _, a_tree O.Expression (suc d), λ t i. refl, λ b h now c. (Clause, λ t i. refl, refl))))), (sh, λ t i. left_out _ _ _ _ (sym (is_when t.kind) ∙ i.1), c))
+head_end_follows d x h e es sh c = (
+  (
+    _,
+    Other,
+    λ t i. kept _ _ _ _ (sym (is_when t.kind) ∙ i.1),
+    (
+      P.Tree O.Expression,
+      suc d,
+      _,
+      a_tree O.Expression (suc d),
+      λ t i. refl,
+      λ b h now c. (
+        _,
+        Other,
+        λ t i. refl,
+        (
+          P.Tree O.Expression,
+          suc d,
+          _,
+          a_tree O.Expression (suc d),
+          λ t i. refl,
+          λ b h now c. (Clause, λ t i. refl, refl),
+        ),
+      ),
+    ),
+  ),
+  (sh, λ t i. left_out _ _ _ _ (sym (is_when t.kind) ∙ i.1), c),
+)
 
 -- behind an annotated pattern
 head_alias_follows : (d : ℕ) (p : Place) (t n : Tree) (i : Stands G.pattern t) (j : Stands G.note n) (b : Bool)
     (e : is_variable_like t ≡ b) (es : List Entry)
     → Follows P.Head es (head_alias d p t n i j b e) (λ x. ⊤) (at (suc d) I.Alias ∷ at d I.HeadEnd ∷ es)
     (variable_shape b)
-head_alias_follows d p x n k j false e es = ((_, Other, λ t i. kept _ _ _ _ (sym (is_when t.kind) ∙ i.1), (P.Tree O.Expression, suc d, _, a_tree O.Expression (suc d), λ t i. refl, λ b h now c. (_, Other, λ t i. refl, (P.Tree O.Expression, suc d, _, a_tree O.Expression (suc d), λ t i. refl, λ b h now c. (Clause, λ t i. refl, refl))))), (Other, λ t i. left_out _ _ _ _ (sym (is_when t.kind) ∙ i.1), sym (ap variable_shape e)))
-head_alias_follows d p x n k j true e es = ((_, Other, λ t i. kept _ _ _ _ (sym (is_equals t.kind) ∙ i.1), (P.Tree O.Pattern, suc (suc d), _, a_tree O.Pattern (suc (suc d)), λ t i. refl, λ b h now c. ((_, Other, λ t i. kept _ _ _ _ (sym (is_when t.kind) ∙ i.1), (P.Tree O.Expression, suc d, _, a_tree O.Expression (suc d), λ t i. refl, λ b h now c. (_, Other, λ t i. refl, (P.Tree O.Expression, suc d, _, a_tree O.Expression (suc d), λ t i. refl, λ b h now c. (Clause, λ t i. refl, refl))))), (Other, λ t i. left_out _ _ _ _ (sym (is_when t.kind) ∙ i.1), refl)))), ((_, Other, λ t i. left_out _ _ _ _ (sym (is_equals t.kind) ∙ i.0.1) ∙ kept _ _ _ _ (sym (is_when t.kind) ∙ i.1), (P.Tree O.Expression, suc d, _, a_tree O.Expression (suc d), λ t i. refl, λ b h now c. (_, Other, λ t i. refl, (P.Tree O.Expression, suc d, _, a_tree O.Expression (suc d), λ t i. refl, λ b h now c. (Clause, λ t i. refl, refl))))), (Variable, λ t i. left_out _ _ _ _ (sym (is_equals t.kind) ∙ i.0.1) ∙ left_out _ _ _ _ (sym (is_when t.kind) ∙ i.1), sym (ap variable_shape e))))
+head_alias_follows d p x n k j false e es = (
+  (
+    _,
+    Other,
+    λ t i. kept _ _ _ _ (sym (is_when t.kind) ∙ i.1),
+    (
+      P.Tree O.Expression,
+      suc d,
+      _,
+      a_tree O.Expression (suc d),
+      λ t i. refl,
+      λ b h now c. (
+        _,
+        Other,
+        λ t i. refl,
+        (
+          P.Tree O.Expression,
+          suc d,
+          _,
+          a_tree O.Expression (suc d),
+          λ t i. refl,
+          λ b h now c. (Clause, λ t i. refl, refl),
+        ),
+      ),
+    ),
+  ),
+  (Other, λ t i. left_out _ _ _ _ (sym (is_when t.kind) ∙ i.1), sym (ap variable_shape e)),
+)
+head_alias_follows d p x n k j true e es = (
+  (
+    _,
+    Other,
+    λ t i. kept _ _ _ _ (sym (is_equals t.kind) ∙ i.1),
+    (
+      P.Tree O.Pattern,
+      suc (suc d),
+      _,
+      a_tree O.Pattern (suc (suc d)),
+      λ t i. refl,
+      λ b h now c. (
+        (
+          _,
+          Other,
+          λ t i. kept _ _ _ _ (sym (is_when t.kind) ∙ i.1),
+          (
+            P.Tree O.Expression,
+            suc d,
+            _,
+            a_tree O.Expression (suc d),
+            λ t i. refl,
+            λ b h now c. (
+              _,
+              Other,
+              λ t i. refl,
+              (
+                P.Tree O.Expression,
+                suc d,
+                _,
+                a_tree O.Expression (suc d),
+                λ t i. refl,
+                λ b h now c. (Clause, λ t i. refl, refl),
+              ),
+            ),
+          ),
+        ),
+        (Other, λ t i. left_out _ _ _ _ (sym (is_when t.kind) ∙ i.1), refl),
+      ),
+    ),
+  ),
+  (
+    (
+      _,
+      Other,
+      λ t i. left_out _ _ _ _ (sym (is_equals t.kind) ∙ i.0.1) ∙ kept _ _ _ _ (sym (is_when t.kind) ∙ i.1),
+      (
+        P.Tree O.Expression,
+        suc d,
+        _,
+        a_tree O.Expression (suc d),
+        λ t i. refl,
+        λ b h now c. (
+          _,
+          Other,
+          λ t i. refl,
+          (
+            P.Tree O.Expression,
+            suc d,
+            _,
+            a_tree O.Expression (suc d),
+            λ t i. refl,
+            λ b h now c. (Clause, λ t i. refl, refl),
+          ),
+        ),
+      ),
+    ),
+    (
+      Variable,
+      λ t i. left_out _ _ _ _ (sym (is_equals t.kind) ∙ i.0.1) ∙ left_out _ _ _ _ (sym (is_when t.kind) ∙ i.1),
+      sym (ap variable_shape e),
+    ),
+  ),
+)
 
 -- the note of an annotated pattern
 head_note_is : (b : Bool) (d : ℕ) (k : TokenKind) (es : List Entry)
@@ -59,20 +186,125 @@ head_note_is false d k es = refl
 
 head_noted_follows : (d : ℕ) (p : Place) (h : Head) (k : HeadRight h) (es : List Entry) (sh : Shape)
     → sh ≡ head_shape h → Follows P.Head es (head_noted d p h k) (λ x. ⊤) (at d I.NotedHead ∷ es) sh
-head_noted_follows d p (whole x) k es sh c = (_, Other, λ t i. ap (λ y. head_note d y t.kind es) c, (P.Tree O.Note, suc (suc d), _, a_tree O.Note (suc (suc d)), λ t i. refl, λ n k last m. (_, Clause, λ t i. refl, (Clause, λ t i. refl, refl))))
-head_noted_follows d p (part x) k es sh c = (_, Other, λ t i. ap (λ y. head_note d y t.kind es) c ∙ head_note_is (is_variable_like x) d t.kind es, (P.Tree O.Note, suc (1 + suc d), _, a_tree O.Note (suc (1 + suc d)), λ t i. refl, λ n l last m. (_, variable_shape (is_variable_like x), λ t i. refl, head_alias_follows d p x n k l (is_variable_like x) refl es)))
+head_noted_follows d p (whole x) k es sh c = (
+  _,
+  Other,
+  λ t i. ap (λ y. head_note d y t.kind es) c,
+  (
+    P.Tree O.Note,
+    suc (suc d),
+    _,
+    a_tree O.Note (suc (suc d)),
+    λ t i. refl,
+    λ n k last m. (_, Clause, λ t i. refl, (Clause, λ t i. refl, refl)),
+  ),
+)
+head_noted_follows d p (part x) k es sh c = (
+  _,
+  Other,
+  λ t i. ap (λ y. head_note d y t.kind es) c ∙ head_note_is (is_variable_like x) d t.kind es,
+  (
+    P.Tree O.Note,
+    suc (1 + suc d),
+    _,
+    a_tree O.Note (suc (1 + suc d)),
+    λ t i. refl,
+    λ n l last m. (
+      _,
+      variable_shape (is_variable_like x),
+      λ t i. refl,
+      head_alias_follows d p x n k l (is_variable_like x) refl es,
+    ),
+  ),
+)
+
+-- what is to be read behind `<`
+abbrev behind_angle : ℕ → List Entry → List Entry
+behind_angle d es =
+    put (suc d) (I.Maybe (P.Items O.Pattern C.Zero) ∷ I.Symbol S.CloseAngle ∷ I.Word W.When ∷ [])
+    (put (suc d) guarded (at d (I.Becomes Clause) ∷ es))
 
 pub head_follows : (d : ℕ) (es : List Entry) (sh : Shape)
     → Follows P.Head es (head_plan d) (λ x. ⊤) (at d (I.Part P.Head) ∷ es) sh
 head_follows d es sh = (
   (
-    λ x. (put (suc d) (I.Maybe (P.Items O.Pattern C.Zero) ∷ I.Symbol S.CloseAngle ∷ I.Word W.When ∷ []) (put (suc d) guarded (at d (I.Becomes Clause) ∷ es))),
+    λ x. behind_angle d es,
     λ x. Other,
     λ t i. chosen_take _ _ _ _ _ (sym (is_angle t.kind) ∙ i.1) ∙ retest _ _ _ _ _ (sym (is_angle t.kind)),
     at_angle P.Head es (λ r. r) (suc d)
         (λ p. rows G.pattern (suc d) λ ts h. symbol_next true (suc d) S.CloseAngle
         (clause_rest (suc d) λ u v i j. done (whole (clause (angled p ts) u v)) (h, i, j) (λ r. refl)))
-        (put (suc d) (I.Maybe (P.Items O.Pattern C.Zero) ∷ I.Symbol S.CloseAngle ∷ I.Word W.When ∷ []) (put (suc d) guarded (at d (I.Becomes Clause) ∷ es))) Other (λ q. ((P.Items O.Pattern C.Zero, suc d, _, items O.Pattern C.Zero (suc d), λ t i. kept _ _ _ _ i.1, λ b h now c. (_, Other, λ t i. refl, (_, Other, λ t i. refl, (P.Tree O.Expression, suc d, _, a_tree O.Expression (suc d), λ t i. refl, λ b h now c. (_, Other, λ t i. refl, (P.Tree O.Expression, suc d, _, a_tree O.Expression (suc d), λ t i. refl, λ b h now c. (Clause, λ t i. refl, refl))))))), (_, Other, λ t i. left_out _ _ _ _ i.1, (_, Other, λ t i. refl, (P.Tree O.Expression, suc d, _, a_tree O.Expression (suc d), λ t i. refl, λ b h now c. (_, Other, λ t i. refl, (P.Tree O.Expression, suc d, _, a_tree O.Expression (suc d), λ t i. refl, λ b h now c. (Clause, λ t i. refl, refl)))))))),
+        (behind_angle d es)
+        Other
+        (λ q. (
+          (
+            P.Items O.Pattern C.Zero,
+            suc d,
+            _,
+            items O.Pattern C.Zero (suc d),
+            λ t i. kept _ _ _ _ i.1,
+            λ b h now c. (
+              _,
+              Other,
+              λ t i. refl,
+              (
+                _,
+                Other,
+                λ t i. refl,
+                (
+                  P.Tree O.Expression,
+                  suc d,
+                  _,
+                  a_tree O.Expression (suc d),
+                  λ t i. refl,
+                  λ b h now c. (
+                    _,
+                    Other,
+                    λ t i. refl,
+                    (
+                      P.Tree O.Expression,
+                      suc d,
+                      _,
+                      a_tree O.Expression (suc d),
+                      λ t i. refl,
+                      λ b h now c. (Clause, λ t i. refl, refl),
+                    ),
+                  ),
+                ),
+              ),
+            ),
+          ),
+          (
+            _,
+            Other,
+            λ t i. left_out _ _ _ _ i.1,
+            (
+              _,
+              Other,
+              λ t i. refl,
+              (
+                P.Tree O.Expression,
+                suc d,
+                _,
+                a_tree O.Expression (suc d),
+                λ t i. refl,
+                λ b h now c. (
+                  _,
+                  Other,
+                  λ t i. refl,
+                  (
+                    P.Tree O.Expression,
+                    suc d,
+                    _,
+                    a_tree O.Expression (suc d),
+                    λ t i. refl,
+                    λ b h now c. (Clause, λ t i. refl, refl),
+                  ),
+                ),
+              ),
+            ),
+          ),
+        )),
   ),
   (
     (
@@ -85,7 +317,14 @@ head_follows d es sh = (
           ∙ chosen_take _ _ _ _ _ (sym (is_paren t.kind) ∙ i.1),
       λ r b h then c. head_noted_follows d r b h es then c,
     ),
-    (P.Tree O.Pattern, suc d, _, a_tree O.Pattern (suc d), λ t i. not_chosen _ _ _ (sym (is_angle t.kind) ∙ i.0.1) ∙ not_chosen _ _ _ (sym (is_paren t.kind) ∙ i.1), λ b h now c. head_end_follows d b h (λ r. refl) es now c),
+    (
+      P.Tree O.Pattern,
+      suc d,
+      _,
+      a_tree O.Pattern (suc d),
+      λ t i. not_chosen _ _ _ (sym (is_angle t.kind) ∙ i.0.1) ∙ not_chosen _ _ _ (sym (is_paren t.kind) ∙ i.1),
+      λ b h now c. head_end_follows d b h (λ r. refl) es now c,
+    ),
   ),
 )
 
@@ -99,7 +338,24 @@ clause_end_is false t d es = refl
 clause_end_follows : (d : ℕ) (h : Head) (k : HeadRight h) (es : List Entry) (sh : Shape) → sh ≡ head_shape h
     → Follows P.Clause es (clause_end d h k) (λ x. ⊤) (at d I.ClauseEnd ∷ es) sh
 clause_end_follows d (whole x) k es sh c = (Other, λ t i. ap (λ y. react t (at d I.ClauseEnd ∷ es) y) c, tt)
-clause_end_follows d (part x) k es sh c = (_, Other, λ t i. ap (λ y. react t (at d I.ClauseEnd ∷ es) y) c ∙ clause_end_is (is_variable_like x) t d es, (P.Tree O.Expression, suc d, _, a_tree O.Expression (suc d), λ t i. refl, λ b h now c. (_, Other, λ t i. refl, (P.Tree O.Expression, suc d, _, a_tree O.Expression (suc d), λ t i. refl, λ b h now c. (now, λ t i. refl, tt)))))
+clause_end_follows d (part x) k es sh c = (
+  _,
+  Other,
+  λ t i. ap (λ y. react t (at d I.ClauseEnd ∷ es) y) c ∙ clause_end_is (is_variable_like x) t d es,
+  (
+    P.Tree O.Expression,
+    suc d,
+    _,
+    a_tree O.Expression (suc d),
+    λ t i. refl,
+    λ b h now c. (
+      _,
+      Other,
+      λ t i. refl,
+      (P.Tree O.Expression, suc d, _, a_tree O.Expression (suc d), λ t i. refl, λ b h now c. (now, λ t i. refl, tt)),
+    ),
+  ),
+)
 
 pub clause_follows : (d : ℕ) (es : List Entry) (sh : Shape)
     → Follows P.Clause es (clause_plan d) (λ x. ⊤) (at d (I.Part P.Clause) ∷ es) sh
@@ -107,4 +363,14 @@ clause_follows d es sh = (P.Head, d, _, a_head d, λ t i. refl, λ b h now c. cl
 
 pub clauses_follow : (d : ℕ) (es : List Entry) (sh : Shape)
     → Follows P.Clauses es (clauses_plan d) (λ x. ⊤) (at d (I.Part P.Clauses) ∷ es) sh
-clauses_follow d es sh = (P.Clause, d, _, a_clause d, λ t i. refl, λ b h now c. ((P.Clauses, d, _, clauses d, λ t i. kept _ _ _ _ i.1, λ b h now c. (now, λ t i. refl, tt)), (Counted C.Zero, λ t i. left_out _ _ _ _ i.1, tt)))
+clauses_follow d es sh = (
+  P.Clause,
+  d,
+  _,
+  a_clause d,
+  λ t i. refl,
+  λ b h now c. (
+    (P.Clauses, d, _, clauses d, λ t i. kept _ _ _ _ i.1, λ b h now c. (now, λ t i. refl, tt)),
+    (Counted C.Zero, λ t i. left_out _ _ _ _ i.1, tt),
+  ),
+)

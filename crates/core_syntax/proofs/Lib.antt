@@ -3,9 +3,11 @@ mod Following
 mod Choosing
 mod Pieces
 mod PartForms
+mod ModuleForms
 mod ClauseForms
 mod ConstantForms
 mod BracketForms
+mod FunForms
 mod WordForms
 mod TreeForms
 mod Names

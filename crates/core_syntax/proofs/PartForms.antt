@@ -1,4 +1,4 @@
--- What is to be read for each part follows its plan.
+-- What is to be read for items, pairs and segments follows their plans.
 use Rattle.std.proofs.Common.{◌≡◌, refl, sym, ap, ◌∙◌, ℕ, suc, ◌+◌, List, [], ◌∷◌, Bool, true, false}
 use Rattle.std.specs.Bool.{⊤}
 use Rattle.erl_base.specs.declared.ids.Place.{Place}
@@ -33,7 +33,22 @@ use Rattle.core_syntax.proofs.Pieces.{starts_as, at_angle, at_atom, at_segment, 
 
 pub items_follow : (s : Sort) (n : Count) (d : ℕ) (es : List Entry) (sh : Shape)
     → Follows (P.Items s n) es (items_plan (sort_of s) d) (λ x. ⊤) (at d (I.Part (P.Items s n)) ∷ es) sh
-items_follow s n d es sh = (P.Tree s, d, _, a_tree s d, λ t i. refl, λ b h now c. ((_, Other, λ t i. kept _ _ _ _ (sym (is_comma t.kind) ∙ i.1), (P.Items s (more n), d, _, items s (more n) d, λ t i. refl, λ b h now c. (now, λ t i. refl, c))), (Counted (more n), λ t i. left_out _ _ _ _ (sym (is_comma t.kind) ∙ i.1), refl)))
+items_follow s n d es sh = (
+  P.Tree s,
+  d,
+  _,
+  a_tree s d,
+  λ t i. refl,
+  λ b h now c. (
+    (
+      _,
+      Other,
+      λ t i. kept _ _ _ _ (sym (is_comma t.kind) ∙ i.1),
+      (P.Items s (more n), d, _, items s (more n) d, λ t i. refl, λ b h now c. (now, λ t i. refl, c)),
+    ),
+    (Counted (more n), λ t i. left_out _ _ _ _ (sym (is_comma t.kind) ∙ i.1), refl),
+  ),
+)
 
 pub group_follows : (d : ℕ) (es : List Entry) (sh : Shape)
     → Follows P.Group es (group_plan d) (λ x. ⊤) (at d (I.Part P.Group) ∷ es) sh
@@ -44,9 +59,27 @@ group_follows d es sh = (
     λ t i. chosen_take _ _ _ _ _ (sym (is_angle t.kind) ∙ i.1) ∙ retest _ _ _ _ _ (sym (is_angle t.kind)),
     at_angle P.Group es (λ r. r) d
         (λ p. rows G.a_variable d λ ts i. symbol_next true d S.CloseAngle (done (angled p ts) i (λ r. refl)))
-        (put d (I.Maybe (P.Items O.Variable C.Zero) ∷ I.CloseGroup ∷ []) es) Other (λ q. ((P.Items O.Variable C.Zero, d, _, items O.Variable C.Zero d, λ t i. kept _ _ _ _ i.1, λ b h now c. (_, now, λ t i. refl, (now, λ t i. refl, c))), (_, Counted C.Zero, λ t i. left_out _ _ _ _ i.1, (Counted C.Zero, λ t i. refl, refl)))),
+        (put d (I.Maybe (P.Items O.Variable C.Zero) ∷ I.CloseGroup ∷ []) es) Other
+        (λ q. (
+          (
+            P.Items O.Variable C.Zero,
+            d,
+            _,
+            items O.Variable C.Zero d,
+            λ t i. kept _ _ _ _ i.1,
+            λ b h now c. (_, now, λ t i. refl, (now, λ t i. refl, c)),
+          ),
+          (_, Counted C.Zero, λ t i. left_out _ _ _ _ i.1, (Counted C.Zero, λ t i. refl, refl)),
+        )),
   ),
-  (P.Tree O.Variable, d, _, a_tree O.Variable d, λ t i. not_chosen _ _ _ (sym (is_angle t.kind) ∙ i.1), λ b h now c. (Counted C.One, λ t i. refl, refl)),
+  (
+    P.Tree O.Variable,
+    d,
+    _,
+    a_tree O.Variable d,
+    λ t i. not_chosen _ _ _ (sym (is_angle t.kind) ∙ i.1),
+    λ b h now c. (Counted C.One, λ t i. refl, refl),
+  ),
 )
 
 -- Pairs.
@@ -55,7 +88,22 @@ pair_end_follows : (s : Sort) (d : ℕ) (t : Tree) (i : Stands (G.key_sort (sort
     (h : G.takes_pair (sort_of s) x ≡ true) (es : List Entry) (sh : Shape)
     → Follows (P.Pairs s) es (pair_end (sort_of s) d t i x h) (λ x. ⊤)
     (put d (I.Part (P.Tree (of_items s)) ∷ I.MorePairs s ∷ []) es) sh
-pair_end_follows s d t i x h es sh = (P.Tree (of_items s), d, _, item_tree s d, λ t i. refl, λ b h now c. ((_, Other, λ t i. kept _ _ _ _ (sym (is_comma t.kind) ∙ i.1), (P.Pairs s, d, _, pairs s d, λ t i. refl, λ b h now c. (now, λ t i. refl, tt))), (Other, λ t i. left_out _ _ _ _ (sym (is_comma t.kind) ∙ i.1), tt)))
+pair_end_follows s d t i x h es sh = (
+  P.Tree (of_items s),
+  d,
+  _,
+  item_tree s d,
+  λ t i. refl,
+  λ b h now c. (
+    (
+      _,
+      Other,
+      λ t i. kept _ _ _ _ (sym (is_comma t.kind) ∙ i.1),
+      (P.Pairs s, d, _, pairs s d, λ t i. refl, λ b h now c. (now, λ t i. refl, tt)),
+    ),
+    (Other, λ t i. left_out _ _ _ _ (sym (is_comma t.kind) ∙ i.1), tt),
+  ),
+)
 
 arrow_follows : (s : Sort) (d : ℕ) (t : Tree) (i : Stands (G.key_sort (sort_of s)) t) (es : List Entry) (sh : Shape)
     → Follows (P.Pairs s) es (arrow_plan (sort_of s) d t i) (λ x. ⊤) (at d (I.PairArrow s) ∷ es) sh
@@ -78,19 +126,146 @@ arrow_follows s d u k es sh = (_, Other, λ t i. refl, pair_end_follows s d u k 
 
 pub pairs_follow : (s : Sort) (d : ℕ) (es : List Entry) (sh : Shape)
     → Follows (P.Pairs s) es (pairs_plan (sort_of s) d) (λ x. ⊤) (at d (I.Part (P.Pairs s)) ∷ es) sh
-pairs_follow s d es sh = (P.Tree (of_keys s), d, _, key_tree s d, λ t i. refl, λ b h now c. arrow_follows s d b h es now)
+pairs_follow s d es sh = (
+  P.Tree (of_keys s),
+  d,
+  _,
+  key_tree s d,
+  λ t i. refl,
+  λ b h now c. arrow_follows s d b h es now,
+)
 
 -- Segments.
 
 loose_follows : (s : Sort) (d : ℕ) (p : Place) (e : is_strict (sort_of s) ≡ false) (es : List Entry) (sh : Shape)
     → Follows (P.Segment s) es (loose_plan (sort_of s) d p e) (λ x. ⊤) (put d (loose_segment s) es) sh
-loose_follows s d p e es sh = (P.Tree (of_values s), d, _, value_tree s d, λ t i. refl, λ b h now c. (_, Other, λ t i. refl, (_, Other, λ t i. refl, (P.Tree (of_keys s), d, _, key_tree s d, λ t i. refl, λ b h now c. (_, Other, λ t i. refl, (P.Tree O.Constant, d, _, a_tree O.Constant d, λ t i. refl, λ b h now c. (_, Other, λ t i. refl, (P.Tree O.Atom, d, _, a_tree O.Atom d, λ t i. refl, λ b h now c. (_, Other, λ t i. refl, (P.Tree O.Constant, d, _, a_tree O.Constant d, λ t i. refl, λ b h now c. (_, Other, λ t i. refl, (Other, λ t i. refl, tt))))))))))))
+loose_follows s d p e es sh = (
+  P.Tree (of_values s),
+  d,
+  _,
+  value_tree s d,
+  λ t i. refl,
+  λ b h now c. (
+    _,
+    Other,
+    λ t i. refl,
+    (
+      _,
+      Other,
+      λ t i. refl,
+      (
+        P.Tree (of_keys s),
+        d,
+        _,
+        key_tree s d,
+        λ t i. refl,
+        λ b h now c. (
+          _,
+          Other,
+          λ t i. refl,
+          (
+            P.Tree O.Constant,
+            d,
+            _,
+            a_tree O.Constant d,
+            λ t i. refl,
+            λ b h now c. (
+              _,
+              Other,
+              λ t i. refl,
+              (
+                P.Tree O.Atom,
+                d,
+                _,
+                a_tree O.Atom d,
+                λ t i. refl,
+                λ b h now c. (
+                  _,
+                  Other,
+                  λ t i. refl,
+                  (
+                    P.Tree O.Constant,
+                    d,
+                    _,
+                    a_tree O.Constant d,
+                    λ t i. refl,
+                    λ b h now c. (_, Other, λ t i. refl, (Other, λ t i. refl, tt)),
+                  ),
+                ),
+              ),
+            ),
+          ),
+        ),
+      ),
+    ),
+  ),
+)
 
 strict_follows : (s : Sort) (d : ℕ) (p : Place) (e : is_strict (sort_of s) ≡ true) (es : List Entry) (sh : Shape)
     → Follows (P.Segment s) es (strict_plan (sort_of s) d p e) (λ x. ⊤) (put d strict_segment es) sh
 strict_follows O.Expression d p e es sh = never e
 strict_follows O.Pattern d p e es sh = never e
-strict_follows s d p e es sh = (P.Value, d, _, a_value d, λ t i. refl, λ b h now c. (_, Other, λ t i. refl, (_, Other, λ t i. refl, (P.Size, d, _, a_size d, λ t i. refl, λ b h now c. (_, Other, λ t i. unit_is _ _ _ _ _ c, (P.Unit _, d, _, a_unit _ d, λ t i. refl, λ b h now c. (_, Other, λ t i. refl, (P.Kind, d, _, a_kind d, λ t i. refl, λ b h now c. (_, Other, λ t i. refl, (P.Flags, d, _, flags d, λ t i. refl, λ b h now c. (_, Other, λ t i. refl, (Other, λ t i. refl, tt))))))))))))
+strict_follows s d p e es sh = (
+  P.Value,
+  d,
+  _,
+  a_value d,
+  λ t i. refl,
+  λ b h now c. (
+    _,
+    Other,
+    λ t i. refl,
+    (
+      _,
+      Other,
+      λ t i. refl,
+      (
+        P.Size,
+        d,
+        _,
+        a_size d,
+        λ t i. refl,
+        λ b h now c. (
+          _,
+          Other,
+          λ t i. unit_is _ _ _ _ _ c,
+          (
+            P.Unit _,
+            d,
+            _,
+            a_unit _ d,
+            λ t i. refl,
+            λ b h now c. (
+              _,
+              Other,
+              λ t i. refl,
+              (
+                P.Kind,
+                d,
+                _,
+                a_kind d,
+                λ t i. refl,
+                λ b h now c. (
+                  _,
+                  Other,
+                  λ t i. refl,
+                  (
+                    P.Flags,
+                    d,
+                    _,
+                    flags d,
+                    λ t i. refl,
+                    λ b h now c. (_, Other, λ t i. refl, (Other, λ t i. refl, tt)),
+                  ),
+                ),
+              ),
+            ),
+          ),
+        ),
+      ),
+    ),
+  ),
+)
 
 open_follows : (s : Sort) (d : ℕ) (p : Place) (es : List Entry) (sh : Shape)
     → Follows (P.Segment s) es (open_segment (sort_of s) d p) (λ x. ⊤) (put d (segment_items s) es) sh
@@ -105,7 +280,26 @@ segment_follows s d es sh = (
     _,
     Other,
     λ t i. chosen_take _ _ _ _ _ (sym (is_paren t.kind) ∙ i.1),
-    (P.Segment s, suc d, _, a_segment s (suc d), λ t i. refl, λ b h now c. (_, Other, λ t i. refl, (P.Tree O.Note, suc d, _, a_tree O.Note (suc d), λ t i. refl, λ n k last m. (_, now, λ t i. refl, (now, λ t i. refl, tt))))),
+    (
+      P.Segment s,
+      suc d,
+      _,
+      a_segment s (suc d),
+      λ t i. refl,
+      λ b h now c. (
+        _,
+        Other,
+        λ t i. refl,
+        (
+          P.Tree O.Note,
+          suc d,
+          _,
+          a_tree O.Note (suc d),
+          λ t i. refl,
+          λ n k last m. (_, now, λ t i. refl, (now, λ t i. refl, tt)),
+        ),
+      ),
+    ),
   ),
   (
     λ x. put d (segment_items s) es,
@@ -118,50 +312,19 @@ segment_follows s d es sh = (
 
 pub segments_follow : (s : Sort) (d : ℕ) (es : List Entry) (sh : Shape)
     → Follows (P.Segments s) es (segments_plan (sort_of s) d) (λ x. ⊤) (at d (I.Part (P.Segments s)) ∷ es) sh
-segments_follow s d es sh = (P.Segment s, d, _, a_segment s d, λ t i. refl, λ b h now c. ((_, Other, λ t i. kept _ _ _ _ (sym (is_comma t.kind) ∙ i.1), (P.Segments s, d, _, segments s d, λ t i. refl, λ b h now c. (now, λ t i. refl, tt))), (Other, λ t i. left_out _ _ _ _ (sym (is_comma t.kind) ∙ i.1), tt)))
-
--- Modules.
-
-pub definitions_follow : (d : ℕ) (es : List Entry) (sh : Shape)
-    → Follows P.Definitions es (definitions_plan d) (λ x. ⊤) (at d (I.Part P.Definitions) ∷ es) sh
-definitions_follow d es sh = (P.Tree O.FunctionName, suc d, _, a_tree O.FunctionName (suc d), λ t i. refl, λ b h now c. (_, Other, λ t i. refl, (P.Tree O.Fun, suc d, _, a_tree O.Fun (suc d), λ t i. refl, λ b h now c. ((P.Definitions, d, _, definitions d, λ t i. kept _ _ _ _ i.1, λ b h now c. (now, λ t i. refl, tt)), (Counted C.Zero, λ t i. left_out _ _ _ _ i.1, tt)))))
-
-pub attributes_follow : (d : ℕ) (es : List Entry) (sh : Shape)
-    → Follows P.Attributes es (attributes_plan d) (λ x. ⊤) (at d (I.Part P.Attributes) ∷ es) sh
-attributes_follow d es sh = (P.Tree O.Atom, d, _, a_tree O.Atom d, λ t i. refl, λ b h now c. (_, Other, λ t i. refl, (P.Tree O.Constant, d, _, a_tree O.Constant d, λ t i. refl, λ b h now c. ((_, Other, λ t i. kept _ _ _ _ (sym (is_comma t.kind) ∙ i.1), (P.Attributes, d, _, attributes d, λ t i. refl, λ b h now c. (now, λ t i. refl, tt))), (Other, λ t i. left_out _ _ _ _ (sym (is_comma t.kind) ∙ i.1), tt)))))
-
-module_definitions_follow : (d : ℕ) (a : Spelled) (xs : Row) (bs : Attributes) (i : RowStands G.a_name xs)
-    (j : AttributesStand bs) (es : List Entry) (sh : Shape)
-    → Follows P.Module es (module_definitions d a xs bs i j) (λ x. ⊤)
-    (put d (I.Symbol S.CloseBracket ∷ I.Maybe P.Definitions ∷ I.Word W.End ∷ []) es) sh
-module_definitions_follow d a xs bs i j es sh = (_, Other, λ t i. refl, ((P.Definitions, d, _, definitions d, λ t i. kept _ _ _ _ i.1, λ b h now c. (_, Other, λ t i. refl, (Other, λ t i. refl, tt))), (_, Other, λ t i. left_out _ _ _ _ i.1, (Other, λ t i. refl, tt))))
-
-module_attributes_follow : (d : ℕ) (a : Spelled) (xs : Row) (i : RowStands G.a_name xs) (es : List Entry) (sh : Shape)
-    → Follows P.Module es (module_attributes d a xs i) (λ x. ⊤)
-    (put d (I.Symbol S.CloseBracket ∷ I.Word W.Attributes ∷ I.Symbol S.OpenBracket ∷ I.Maybe P.Attributes
-    ∷ I.Symbol S.CloseBracket ∷ I.Maybe P.Definitions ∷ I.Word W.End ∷ []) es) sh
-module_attributes_follow d a xs i es sh = (_, Other, λ t i. refl, (_, Other, λ t i. refl, (_, Other, λ t i. refl, ((P.Attributes, d, _, attributes d, λ t i. kept _ _ _ _ i.1, λ b h now c. module_definitions_follow d a xs (attribute b.0 b.1 b.2) i h es now), starts_as (module_definitions d a xs no_attribute i tt) P.Module es _ (λ x. ⊤) (at d (I.Maybe P.Attributes) ∷ (put d (I.Symbol S.CloseBracket ∷ I.Maybe P.Definitions ∷ I.Word W.End ∷ []) es)) (put d (I.Symbol S.CloseBracket ∷ I.Maybe P.Definitions ∷ I.Word W.End ∷ []) es) Other (Counted C.Zero) (λ t i. not_begun t P.Attributes d (put d (I.Symbol S.CloseBracket ∷ I.Maybe P.Definitions ∷ I.Word W.End ∷ []) es) Other i.1) (λ x i. tt) (module_definitions_follow d a xs no_attribute i tt es (Counted C.Zero))))))
-
-pub module_follows : (d : ℕ) (es : List Entry) (sh : Shape)
-    → Follows P.Module es (module_plan d) (λ x. ⊤) (at d (I.Part P.Module) ∷ es) sh
-module_follows d es sh = (
-  (
-    _,
-    Other,
-    λ t i. chosen_take _ _ _ _ _ (sym (is_paren t.kind) ∙ i.1),
-    (P.Module, suc d, _, a_module (suc d), λ t i. refl, λ b h now c. (_, Other, λ t i. refl, (P.Tree O.Note, suc d, _, a_tree O.Note (suc d), λ t i. refl, λ n k last m. (_, now, λ t i. refl, (now, λ t i. refl, tt))))),
-  ),
-  (
-    put d module_items es,
-    Other,
-    λ t i. not_chosen _ _ _ (sym (is_paren t.kind) ∙ i.1),
+segments_follow s d es sh = (
+  P.Segment s,
+  d,
+  _,
+  a_segment s d,
+  λ t i. refl,
+  λ b h now c. (
     (
-      λ x. put d module_rest es,
-      λ x. Other,
-      λ t i. retest _ _ _ _ _ (sym (is_atom t.kind)),
-      at_atom P.Module es (λ r. kept_word d W.Module r) d
-          (λ a. symbol_next true d S.OpenBracket (rows G.a_name d λ xs i. module_attributes d a xs i))
-          (put d module_rest es) Other (λ a. (_, Other, λ t i. refl, ((P.Items O.FunctionName C.Zero, d, _, items O.FunctionName C.Zero d, λ t i. kept _ _ _ _ i.1, λ b h now c. module_attributes_follow d a (more_of b.0 b.1) h es now), starts_as (module_attributes d a none tt) P.Module es _ (λ x. ⊤) (at d (I.Maybe (P.Items O.FunctionName C.Zero)) ∷ (put d (I.Symbol S.CloseBracket ∷ I.Word W.Attributes ∷ I.Symbol S.OpenBracket ∷ I.Maybe P.Attributes ∷ I.Symbol S.CloseBracket ∷ I.Maybe P.Definitions ∷ I.Word W.End ∷ []) es)) (put d (I.Symbol S.CloseBracket ∷ I.Word W.Attributes ∷ I.Symbol S.OpenBracket ∷ I.Maybe P.Attributes ∷ I.Symbol S.CloseBracket ∷ I.Maybe P.Definitions ∷ I.Word W.End ∷ []) es) Other (Counted C.Zero) (λ t i. not_begun t (P.Items O.FunctionName C.Zero) d (put d (I.Symbol S.CloseBracket ∷ I.Word W.Attributes ∷ I.Symbol S.OpenBracket ∷ I.Maybe P.Attributes ∷ I.Symbol S.CloseBracket ∷ I.Maybe P.Definitions ∷ I.Word W.End ∷ []) es) Other i.1) (λ x i. tt) (module_attributes_follow d a none tt es (Counted C.Zero))))),
+      _,
+      Other,
+      λ t i. kept _ _ _ _ (sym (is_comma t.kind) ∙ i.1),
+      (P.Segments s, d, _, segments s d, λ t i. refl, λ b h now c. (now, λ t i. refl, tt)),
     ),
+    (Other, λ t i. left_out _ _ _ _ (sym (is_comma t.kind) ∙ i.1), tt),
   ),
 )

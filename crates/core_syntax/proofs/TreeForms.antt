@@ -37,7 +37,8 @@ use Rattle.core_syntax.proofs.Choosing.{is_paren}
 use Rattle.core_syntax.proofs.Following.{Follows, Enters, a_tree, items, group, pairs, a_segment, segments, a_head, a_clause, clauses, definitions, attributes, a_module, a_value, a_size, a_unit, a_kind, flags, a_flag, flag_items, variable_shape}
 use Rattle.core_syntax.proofs.BracketForms.{other_counts, variable_follows, atom_follows, bracket_follows}
 use Rattle.core_syntax.proofs.WordForms.{form_follows}
-use Rattle.core_syntax.proofs.PartForms.{items_follow, group_follows, pairs_follow, segment_follows, segments_follow, definitions_follow, attributes_follow, module_follows}
+use Rattle.core_syntax.proofs.PartForms.{items_follow, group_follows, pairs_follow, segment_follows, segments_follow}
+use Rattle.core_syntax.proofs.ModuleForms.{definitions_follow, attributes_follow, module_follows}
 use Rattle.core_syntax.proofs.ClauseForms.{head_follows, clause_follows, clauses_follow}
 use Rattle.core_syntax.proofs.ConstantForms.{value_follows, size_follows, unit_follows, kind_follows, flags_follow, flag_follows, flag_items_follow}
 
@@ -85,7 +86,19 @@ tree_follows O.Key d es sh = (
     Other,
     a_tree O.Key (suc d),
     λ t i. key_paren t.kind d es (sym (is_paren t.kind) ∙ i.1),
-    λ r b h then c. (_, Other, λ t i. ap (λ w. note (suc (w + d)) then t.kind es) (ap key_weight_of c ∙ key_weighs b), (P.Tree O.Note, suc (key_weight b + d), _, a_tree O.Note (suc (key_weight b + d)), λ t i. refl, λ n k last m. (_, then, λ t i. refl, (then, λ t i. refl, c)))),
+    λ r b h then c. (
+      _,
+      Other,
+      λ t i. ap (λ w. note (suc (w + d)) then t.kind es) (ap key_weight_of c ∙ key_weighs b),
+      (
+        P.Tree O.Note,
+        suc (key_weight b + d),
+        _,
+        a_tree O.Note (suc (key_weight b + d)),
+        λ t i. refl,
+        λ n k last m. (_, then, λ t i. refl, (then, λ t i. refl, c)),
+      ),
+    ),
   ),
   (
     λ x. tree_next O.Key d x es,

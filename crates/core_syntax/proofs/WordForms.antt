@@ -37,6 +37,7 @@ use Rattle.core_syntax.proofs.Choosing.{is_paren, chosen_take, not_chosen, kept,
 use Rattle.core_syntax.proofs.Following.{Follows, a_tree, items, group, a_clause, clauses, definitions, counted, group_counted}
 use Rattle.core_syntax.proofs.Pieces.{at_atom}
 use Rattle.core_syntax.proofs.BracketForms.{other_counts}
+use Rattle.core_syntax.proofs.FunForms.{fun_follows}
 
 -- Variables of a catch part are counted.
 
@@ -51,7 +52,8 @@ neither false b h i = i
 past_three : (n : ℕ) → is_catch_count (suc (suc (suc (suc n)))) ≡ false
 past_three n =
     neither (eqb (suc (suc (suc (suc n)))) 2) (eqb (suc (suc (suc (suc n)))) 3)
-    (ne_eqb (suc (suc (suc (suc n)))) 2 (λ e. omega (arith, e))) (ne_eqb (suc (suc (suc (suc n)))) 3 (λ e. omega (arith, e)))
+    (ne_eqb (suc (suc (suc (suc n)))) 2 (λ e. omega (arith, e)))
+    (ne_eqb (suc (suc (suc (suc n)))) 3 (λ e. omega (arith, e)))
 
 catch_row : (ts : Row) → catches (Counted (counted C.Zero ts)) ≡ is_catch_count (row_count ts)
 catch_row none = refl
@@ -65,64 +67,314 @@ catch_group : (g : Group) → catches (Counted (group_counted g)) ≡ is_catch_c
 catch_group (single t) = refl
 catch_group (angled p ts) = catch_row ts
 
--- Funs.
-
-local_follows : (d : ℕ) (p : Place) (es : List Entry) (known : TokenKind → Type 0) (start : List Entry) (sh : Shape)
-    → ((t : Token) → known t.kind
-    → react t start sh ≡ on_test (is_symbol S.OpenParen t.kind) (suc d) (put (suc d) local_rest es) Other)
-    → Follows (P.Tree O.Expression) es (local_plan G.expression d p refl) known start sh
-local_follows d p es known start sh q = (_, Other, q, ((P.Items O.Variable C.Zero, suc d, _, items O.Variable C.Zero (suc d), λ t i. kept _ _ _ _ i.1, λ b h now c. (_, Other, λ t i. refl, (_, Other, λ t i. refl, (P.Tree O.Expression, suc d, _, a_tree O.Expression (suc d), λ t i. refl, λ b h now c. (now, λ t i. refl, tt))))), (_, Other, λ t i. left_out _ _ _ _ i.1, (_, Other, λ t i. refl, (P.Tree O.Expression, suc d, _, a_tree O.Expression (suc d), λ t i. refl, λ b h now c. (now, λ t i. refl, tt))))))
-
-external_follows : (s : Sort) (d : ℕ) (p : Place) (h : G.takes_constant (sort_of s) ≡ true) (es : List Entry)
-    (known : TokenKind → Type 0) (start : List Entry) (sh : Shape)
-    → ((t : Token) → known t.kind
-    → react t start sh ≡ on_test (is_atom t.kind) (suc d) (put (suc d) external_rest es) Other)
-    → Follows (P.Tree s) es (external_plan (sort_of s) d p h) known start sh
-external_follows s d p h es known start sh q = (
-  λ x. put (suc d) external_rest es,
-  λ x. Other,
-  λ t i. q t i ∙ retest _ _ _ _ _ (sym (Choosing.is_atom t.kind)),
-  at_atom (P.Tree s) es (λ r. token_at (suc d) p (K.Word W.Fun) r) (suc d)
-      (λ m. symbol_next true (suc d) S.Colon (atom_plan (suc d) λ f. symbol_next true (suc d) S.Slash
-      (arity_next (suc d) λ n i. done (external p m f n) (h, i) (λ r. refl))))
-      (put (suc d) external_rest es) Other (λ m. (_, Other, λ t i. refl, (λ x. put (suc d) (I.Symbol S.Slash ∷ I.Arity ∷ []) es, λ x. Other, λ t i. retest _ _ _ _ _ (sym (Choosing.is_atom t.kind)), at_atom (P.Tree s) es (λ r. token_at (suc d) p (K.Word W.Fun) (spelled (suc d) m (symbol (suc d) S.Colon r))) (suc d) (λ f. symbol_next true (suc d) S.Slash (arity_next (suc d) λ n i. done (external p m f n) (h, i) (λ r. refl))) (put (suc d) (I.Symbol S.Slash ∷ I.Arity ∷ []) es) Other (λ f. (_, Other, λ t i. refl, (_, Other, λ t i. refl, λ n h. (Other, λ t i. refl, other_counts s _ refl))))))),
-)
-
-fun_follows : (s : Sort) (d : ℕ) (p : Place) (h : T.takes_word (sort_of s) W.Fun ≡ true) (es : List Entry)
-    → Follows (P.Tree s) es (fun_plan (sort_of s) d p h) (λ x. ⊤) (fun_next s (suc d) es) Other
-fun_follows O.Expression d p h es = (
-  local_follows d p es _ (at (suc d) I.FunRest ∷ es) Other (λ t i. chosen_take _ _ _ _ _ (sym (is_paren t.kind) ∙ i.1)),
-  external_follows O.Expression d p refl es _ (at (suc d) I.FunRest ∷ es) Other (λ t i. not_chosen _ _ _ (sym (is_paren t.kind) ∙ i.1)),
-)
-fun_follows O.Fun d p h es = (_, Other, λ t i. refl, ((P.Items O.Variable C.Zero, suc d, _, items O.Variable C.Zero (suc d), λ t i. kept _ _ _ _ i.1, λ b h now c. (_, Other, λ t i. refl, (_, Other, λ t i. refl, (P.Tree O.Expression, suc d, _, a_tree O.Expression (suc d), λ t i. refl, λ b h now c. (now, λ t i. refl, tt))))), (_, Other, λ t i. left_out _ _ _ _ i.1, (_, Other, λ t i. refl, (P.Tree O.Expression, suc d, _, a_tree O.Expression (suc d), λ t i. refl, λ b h now c. (now, λ t i. refl, tt))))))
-fun_follows O.Pattern d p h es = external_follows O.Pattern d p refl es _ (put (suc d) (I.Atom ∷ external_rest) es) Other (λ t i. refl)
-fun_follows O.Constant d p h es = external_follows O.Constant d p refl es _ (put (suc d) (I.Atom ∷ external_rest) es) Other (λ t i. refl)
-fun_follows O.Key d p h es = external_follows O.Key d p refl es _ (put (suc d) (I.Atom ∷ external_rest) es) Other (λ t i. refl)
-fun_follows _ d p h es = never h
-
 -- Expressions.
 
 expression_follows : (d : ℕ) (p : Place) (x : Words.Word) (h : T.takes_word G.expression x ≡ true) (es : List Entry)
     → Follows (P.Tree O.Expression) es (word_plan G.expression d p x h) (λ x. ⊤) (form_next O.Expression (suc d) x es)
     Other
 expression_follows d p W.Fun h es = fun_follows O.Expression d p h es
-expression_follows d p W.Let h es = (P.Group, suc d, _, group (suc d), λ t i. refl, λ b h now c. (_, Other, λ t i. refl, (P.Tree O.Expression, suc d, _, a_tree O.Expression (suc d), λ t i. refl, λ b h now c. (_, Other, λ t i. refl, (P.Tree O.Expression, suc d, _, a_tree O.Expression (suc d), λ t i. refl, λ b h now c. (now, λ t i. refl, tt))))))
-expression_follows d p W.Letrec h es = ((P.Definitions, suc d, _, definitions (suc d), λ t i. kept _ _ _ _ i.1, λ b h now c. (_, Other, λ t i. refl, (P.Tree O.Expression, suc d, _, a_tree O.Expression (suc d), λ t i. refl, λ b h now c. (now, λ t i. refl, tt)))), (_, Other, λ t i. left_out _ _ _ _ i.1, (P.Tree O.Expression, suc d, _, a_tree O.Expression (suc d), λ t i. refl, λ b h now c. (now, λ t i. refl, tt))))
-expression_follows d p W.Case h es = (P.Tree O.Expression, suc d, _, a_tree O.Expression (suc d), λ t i. refl, λ b h now c. (_, Other, λ t i. refl, (P.Clause, suc d, _, a_clause (suc d), λ t i. refl, λ b h now c. ((P.Clauses, suc d, _, clauses (suc d), λ t i. kept _ _ _ _ i.1, λ b h now c. (_, Other, λ t i. refl, (Other, λ t i. refl, tt))), (_, Other, λ t i. left_out _ _ _ _ i.1, (Other, λ t i. refl, tt))))))
-expression_follows d p W.Apply h es = (P.Tree O.Expression, suc d, _, a_tree O.Expression (suc d), λ t i. refl, λ b h now c. (_, Other, λ t i. refl, ((P.Items O.Expression C.Zero, suc d, _, items O.Expression C.Zero (suc d), λ t i. kept _ _ _ _ i.1, λ b h now c. (_, Other, λ t i. refl, (Other, λ t i. refl, tt))), (_, Other, λ t i. left_out _ _ _ _ i.1, (Other, λ t i. refl, tt)))))
-expression_follows d p W.Call h es = (P.Tree O.Expression, suc d, _, a_tree O.Expression (suc d), λ t i. refl, λ b h now c. (_, Other, λ t i. refl, (P.Tree O.Expression, suc d, _, a_tree O.Expression (suc d), λ t i. refl, λ b h now c. (_, Other, λ t i. refl, ((P.Items O.Expression C.Zero, suc d, _, items O.Expression C.Zero (suc d), λ t i. kept _ _ _ _ i.1, λ b h now c. (_, Other, λ t i. refl, (Other, λ t i. refl, tt))), (_, Other, λ t i. left_out _ _ _ _ i.1, (Other, λ t i. refl, tt)))))))
+expression_follows d p W.Let h es = (
+  P.Group,
+  suc d,
+  _,
+  group (suc d),
+  λ t i. refl,
+  λ b h now c. (
+    _,
+    Other,
+    λ t i. refl,
+    (
+      P.Tree O.Expression,
+      suc d,
+      _,
+      a_tree O.Expression (suc d),
+      λ t i. refl,
+      λ b h now c. (
+        _,
+        Other,
+        λ t i. refl,
+        (
+          P.Tree O.Expression,
+          suc d,
+          _,
+          a_tree O.Expression (suc d),
+          λ t i. refl,
+          λ b h now c. (now, λ t i. refl, tt),
+        ),
+      ),
+    ),
+  ),
+)
+expression_follows d p W.Letrec h es = (
+  (
+    P.Definitions,
+    suc d,
+    _,
+    definitions (suc d),
+    λ t i. kept _ _ _ _ i.1,
+    λ b h now c. (
+      _,
+      Other,
+      λ t i. refl,
+      (P.Tree O.Expression, suc d, _, a_tree O.Expression (suc d), λ t i. refl, λ b h now c. (now, λ t i. refl, tt)),
+    ),
+  ),
+  (
+    _,
+    Other,
+    λ t i. left_out _ _ _ _ i.1,
+    (P.Tree O.Expression, suc d, _, a_tree O.Expression (suc d), λ t i. refl, λ b h now c. (now, λ t i. refl, tt)),
+  ),
+)
+expression_follows d p W.Case h es = (
+  P.Tree O.Expression,
+  suc d,
+  _,
+  a_tree O.Expression (suc d),
+  λ t i. refl,
+  λ b h now c. (
+    _,
+    Other,
+    λ t i. refl,
+    (
+      P.Clause,
+      suc d,
+      _,
+      a_clause (suc d),
+      λ t i. refl,
+      λ b h now c. (
+        (
+          P.Clauses,
+          suc d,
+          _,
+          clauses (suc d),
+          λ t i. kept _ _ _ _ i.1,
+          λ b h now c. (_, Other, λ t i. refl, (Other, λ t i. refl, tt)),
+        ),
+        (_, Other, λ t i. left_out _ _ _ _ i.1, (Other, λ t i. refl, tt)),
+      ),
+    ),
+  ),
+)
+expression_follows d p W.Apply h es = (
+  P.Tree O.Expression,
+  suc d,
+  _,
+  a_tree O.Expression (suc d),
+  λ t i. refl,
+  λ b h now c. (
+    _,
+    Other,
+    λ t i. refl,
+    (
+      (
+        P.Items O.Expression C.Zero,
+        suc d,
+        _,
+        items O.Expression C.Zero (suc d),
+        λ t i. kept _ _ _ _ i.1,
+        λ b h now c. (_, Other, λ t i. refl, (Other, λ t i. refl, tt)),
+      ),
+      (_, Other, λ t i. left_out _ _ _ _ i.1, (Other, λ t i. refl, tt)),
+    ),
+  ),
+)
+expression_follows d p W.Call h es = (
+  P.Tree O.Expression,
+  suc d,
+  _,
+  a_tree O.Expression (suc d),
+  λ t i. refl,
+  λ b h now c. (
+    _,
+    Other,
+    λ t i. refl,
+    (
+      P.Tree O.Expression,
+      suc d,
+      _,
+      a_tree O.Expression (suc d),
+      λ t i. refl,
+      λ b h now c. (
+        _,
+        Other,
+        λ t i. refl,
+        (
+          (
+            P.Items O.Expression C.Zero,
+            suc d,
+            _,
+            items O.Expression C.Zero (suc d),
+            λ t i. kept _ _ _ _ i.1,
+            λ b h now c. (_, Other, λ t i. refl, (Other, λ t i. refl, tt)),
+          ),
+          (_, Other, λ t i. left_out _ _ _ _ i.1, (Other, λ t i. refl, tt)),
+        ),
+      ),
+    ),
+  ),
+)
 expression_follows d p W.Primop h es = (
   λ x. put (suc d) arguments es,
   λ x. Other,
   λ t i. retest _ _ _ _ _ (sym (Choosing.is_atom t.kind)),
   at_atom (P.Tree O.Expression) es (λ r. token_at (suc d) p (K.Word W.Primop) r) (suc d)
       (λ a. arguments_plan (suc d) λ ts j. done (primop p a ts) (h, j) (λ r. refl)) (put (suc d) arguments es) Other
-      (λ a. (_, Other, λ t i. refl, ((P.Items O.Expression C.Zero, suc d, _, items O.Expression C.Zero (suc d), λ t i. kept _ _ _ _ i.1, λ b h now c. (_, Other, λ t i. refl, (Other, λ t i. refl, tt))), (_, Other, λ t i. left_out _ _ _ _ i.1, (Other, λ t i. refl, tt))))),
+      (λ a. (
+        _,
+        Other,
+        λ t i. refl,
+        (
+          (
+            P.Items O.Expression C.Zero,
+            suc d,
+            _,
+            items O.Expression C.Zero (suc d),
+            λ t i. kept _ _ _ _ i.1,
+            λ b h now c. (_, Other, λ t i. refl, (Other, λ t i. refl, tt)),
+          ),
+          (_, Other, λ t i. left_out _ _ _ _ i.1, (Other, λ t i. refl, tt)),
+        ),
+      )),
 )
-expression_follows d p W.Do h es = (P.Tree O.Expression, suc d, _, a_tree O.Expression (suc d), λ t i. refl, λ b h now c. (P.Tree O.Expression, suc d, _, a_tree O.Expression (suc d), λ t i. refl, λ b h now c. (now, λ t i. refl, tt)))
-expression_follows d p W.Catch h es = (P.Tree O.Expression, suc d, _, a_tree O.Expression (suc d), λ t i. refl, λ b h now c. (now, λ t i. refl, tt))
-expression_follows d p W.Try h es = (P.Tree O.Expression, suc d, _, a_tree O.Expression (suc d), λ t i. refl, λ b h now c. (_, Other, λ t i. refl, (P.Group, suc d, _, group (suc d), λ t i. refl, λ b h now c. (_, Other, λ t i. refl, (P.Tree O.Expression, suc d, _, a_tree O.Expression (suc d), λ t i. refl, λ b h now c. (_, Other, λ t i. refl, (P.Group, suc d, _, group (suc d), λ t i. refl, λ b h now c. (_, Other, λ t i. retest _ _ _ _ _ (ap (λ x. x && is_symbol S.Arrow t.kind) (ap catches c ∙ catch_group b)), (P.Tree O.Expression, suc d, _, a_tree O.Expression (suc d), λ t i. refl, λ b h now c. (now, λ t i. refl, tt))))))))))
-expression_follows d p W.Receive h es = ((P.Clauses, suc d, _, clauses (suc d), λ t i. kept _ _ _ _ i.1, λ b h now c. (_, Other, λ t i. refl, (P.Tree O.Expression, suc d, _, a_tree O.Expression (suc d), λ t i. refl, λ b h now c. (_, Other, λ t i. refl, (P.Tree O.Expression, suc d, _, a_tree O.Expression (suc d), λ t i. refl, λ b h now c. (now, λ t i. refl, tt)))))), (_, Other, λ t i. left_out _ _ _ _ i.1, (P.Tree O.Expression, suc d, _, a_tree O.Expression (suc d), λ t i. refl, λ b h now c. (_, Other, λ t i. refl, (P.Tree O.Expression, suc d, _, a_tree O.Expression (suc d), λ t i. refl, λ b h now c. (now, λ t i. refl, tt))))))
+expression_follows d p W.Do h es = (
+  P.Tree O.Expression,
+  suc d,
+  _,
+  a_tree O.Expression (suc d),
+  λ t i. refl,
+  λ b h now c. (
+    P.Tree O.Expression,
+    suc d,
+    _,
+    a_tree O.Expression (suc d),
+    λ t i. refl,
+    λ b h now c. (now, λ t i. refl, tt),
+  ),
+)
+expression_follows d p W.Catch h es = (
+  P.Tree O.Expression,
+  suc d,
+  _,
+  a_tree O.Expression (suc d),
+  λ t i. refl,
+  λ b h now c. (now, λ t i. refl, tt),
+)
+expression_follows d p W.Try h es = (
+  P.Tree O.Expression,
+  suc d,
+  _,
+  a_tree O.Expression (suc d),
+  λ t i. refl,
+  λ b h now c. (
+    _,
+    Other,
+    λ t i. refl,
+    (
+      P.Group,
+      suc d,
+      _,
+      group (suc d),
+      λ t i. refl,
+      λ b h now c. (
+        _,
+        Other,
+        λ t i. refl,
+        (
+          P.Tree O.Expression,
+          suc d,
+          _,
+          a_tree O.Expression (suc d),
+          λ t i. refl,
+          λ b h now c. (
+            _,
+            Other,
+            λ t i. refl,
+            (
+              P.Group,
+              suc d,
+              _,
+              group (suc d),
+              λ t i. refl,
+              λ b h now c. (
+                _,
+                Other,
+                λ t i. retest _ _ _ _ _ (ap (λ x. x && is_symbol S.Arrow t.kind) (ap catches c ∙ catch_group b)),
+                (
+                  P.Tree O.Expression,
+                  suc d,
+                  _,
+                  a_tree O.Expression (suc d),
+                  λ t i. refl,
+                  λ b h now c. (now, λ t i. refl, tt),
+                ),
+              ),
+            ),
+          ),
+        ),
+      ),
+    ),
+  ),
+)
+expression_follows d p W.Receive h es = (
+  (
+    P.Clauses,
+    suc d,
+    _,
+    clauses (suc d),
+    λ t i. kept _ _ _ _ i.1,
+    λ b h now c. (
+      _,
+      Other,
+      λ t i. refl,
+      (
+        P.Tree O.Expression,
+        suc d,
+        _,
+        a_tree O.Expression (suc d),
+        λ t i. refl,
+        λ b h now c. (
+          _,
+          Other,
+          λ t i. refl,
+          (
+            P.Tree O.Expression,
+            suc d,
+            _,
+            a_tree O.Expression (suc d),
+            λ t i. refl,
+            λ b h now c. (now, λ t i. refl, tt),
+          ),
+        ),
+      ),
+    ),
+  ),
+  (
+    _,
+    Other,
+    λ t i. left_out _ _ _ _ i.1,
+    (
+      P.Tree O.Expression,
+      suc d,
+      _,
+      a_tree O.Expression (suc d),
+      λ t i. refl,
+      λ b h now c. (
+        _,
+        Other,
+        λ t i. refl,
+        (
+          P.Tree O.Expression,
+          suc d,
+          _,
+          a_tree O.Expression (suc d),
+          λ t i. refl,
+          λ b h now c. (now, λ t i. refl, tt),
+        ),
+      ),
+    ),
+  ),
+)
 expression_follows d p _ h es = never h
 
 pub form_follows : (s : Sort) (d : ℕ) (p : Place) (x : Words.Word) (h : T.takes_word (sort_of s) x ≡ true)

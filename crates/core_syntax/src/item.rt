@@ -12,8 +12,8 @@ pub enum Count {
     Many,
 }
 
-/// What the part that was read last is to what goes on behind it: a variable, annotated or not; all of a clause; so many
-/// items; a size; anything else.
+/// What the part that was read last is to what goes on behind it: a variable, annotated or not; all of a clause; so
+/// many items; a size; anything else.
 #[derive(Clone, Copy, Debug)]
 pub enum Shape {
     Other,
