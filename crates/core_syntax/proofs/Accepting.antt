@@ -1,6 +1,5 @@
 -- What the tokens so far lead to.
-use Rattle.std.proofs.Common.{arith, ◌≡◌, refl, sym, ap, ◌∙◌, subst, ℕ, suc, ◌+◌, ◌<◌, ◌≤◌, List, [], ◌∷◌, ◌++◌, Bool, true, false, Option, None, Some, length, take, drop, get_or}
-use Rattle.std.specs.Bool.{⊤}
+use Rattle.std.proofs.Common.{arith, ◌≡◌, refl, sym, ap, ◌∙◌, subst, ℕ, ◌+◌, ◌<◌, ◌≤◌, List, [], ◌∷◌, ◌++◌, Bool, true, false, None, Some, length, take, drop, get_or}
 use Rattle.std.proofs.lemmas.List.{take-append-drop, take_more, drop_more}
 use Rattle.std.proofs.Math.Seq.{take-length}
 use Rattle.erl_base.specs.declared.refusal.Fault.{Fault}
@@ -11,7 +10,7 @@ use Rattle.core_lex.specs.declared.token.Token.{Token}
 use Rattle.core_lex.specs.Tokens.{is_last, IsClosed}
 use Rattle.core_grammar.specs.Signs.{signs}
 use Rattle.core_grammar.specs.ModuleOf.{module_of}
-use Rattle.core_grammar.specs.Texts.{FirstSyntaxFault, NestingFault, IsParseFault, first_too_deep, most_depth}
+use Rattle.core_grammar.specs.Texts.{FirstSyntaxFault, NestingFault, IsParseFault, first_too_deep}
 use Rattle.core_texts.proofs.Truths.{never}
 use Rattle.core_texts.proofs.Overs.{over_whole}
 use Rattle.core_texts.proofs.Parts.{module_part}

@@ -1,13 +1,11 @@
 -- What is to be read for a tree that begins with a name, an integer or a bracket follows its plan.
-use Rattle.std.proofs.Common.{◌≡◌, refl, sym, ap, ◌∙◌, ℕ, suc, ◌+◌, List, [], ◌∷◌, Bool, true, false, ◌&&◌, ◌||◌, pos}
+use Rattle.std.proofs.Common.{◌≡◌, refl, sym, ap, ◌∙◌, ℕ, suc, ◌+◌, List, ◌∷◌, Bool, true, false}
 use Rattle.std.specs.Bool.{⊤}
 use Rattle.erl_base.specs.declared.ids.Place.{Place}
 use Rattle.erl_base.specs.Names.{Name}
 use Rattle.core_lex.specs.declared.token.Token.{Token}
 use Rattle.core_lex.specs.declared.token.TokenKind.{TokenKind}
 use Rattle.core_lex.specs.declared.token.TokenKind.TheVariants as K
-use Rattle.core_lex.specs.declared.token.Word as Words
-use Rattle.core_lex.specs.declared.token.Word.TheVariants as W
 use Rattle.core_lex.specs.declared.token.Symbol as Symbols
 use Rattle.core_lex.specs.declared.token.Symbol.TheVariants as S
 use Rattle.core_texts.proofs.Truths.{never}
@@ -15,21 +13,18 @@ use Rattle.core_syntax.specs.declared.sort.Sort.{Sort}
 use Rattle.core_syntax.specs.declared.sort.Sort.TheVariants as O
 use Rattle.core_syntax.specs.declared.item.Count.TheVariants as C
 use Rattle.core_syntax.specs.declared.item.Shape.{Shape}
-use Rattle.core_syntax.specs.declared.item.Shape.TheVariants.{Other, Variable, Clause, Counted, Size}
+use Rattle.core_syntax.specs.declared.item.Shape.TheVariants.{Other, Variable}
 use Rattle.core_syntax.specs.declared.item.Part.TheVariants as P
 use Rattle.core_syntax.specs.declared.item.Item.TheVariants as I
 use Rattle.core_syntax.specs.declared.item.Entry.{Entry}
-use Rattle.core_grammar.specs.WrittenTree.{Spelled, Tree, variable, noted, new_map, external, Pairs, no_pair, pair}
+use Rattle.core_grammar.specs.WrittenTree.{Tree, new_map, Pairs, no_pair, pair}
 use Rattle.core_grammar.specs.Standing as G
 use Rattle.core_grammar.specs.Standing.{Stands, PairsStand}
-use Rattle.core_grammar.specs.Signs.{Sign, spelled, token_at, symbol}
 use Rattle.core_texts.proofs.Annotated.{is_variable_like}
-use Rattle.core_texts.proofs.Plans.{symbol_next, arity_next, done}
-use Rattle.core_texts.proofs.Steps.{atom_plan}
 use Rattle.core_texts.proofs.Trees as T
 use Rattle.core_texts.proofs.Trees.{variable_plan, atom_tree_plan, alias_end, noted_plan, map_end, symbol_plan}
 use Rattle.core_syntax.specs.Sorts.{sort_of, inner, of_items, leaf_weight, open_weight}
-use Rattle.core_syntax.specs.Beginnings.{at, put, variable_next, atom_next, noted_next, bracket_next}
+use Rattle.core_syntax.specs.Beginnings.{at, variable_next, atom_next, noted_next, bracket_next}
 use Rattle.core_syntax.specs.Reactions as R
 use Rattle.core_syntax.specs.Reactions.{react}
 use Rattle.core_syntax.proofs.Choosing.{is_slash, is_bar, is_equals, chosen, chosen_take, not_chosen, kept, left_out}

@@ -1,5 +1,5 @@
 -- What the next token is tells what is done.
-use Rattle.std.proofs.Common.{◌≡◌, refl, sym, ap, ◌∙◌, ℕ, List, ◌∷◌, Bool, true, false, Option}
+use Rattle.std.proofs.Common.{◌≡◌, refl, sym, ap, ℕ, List, ◌∷◌, Bool, true, false}
 use Rattle.core_lex.specs.declared.token.Token.{Token}
 use Rattle.core_lex.specs.declared.token.TokenKind.{TokenKind}
 use Rattle.core_lex.specs.declared.token.TokenKind.TheVariants.{Symbol, Word, Atom}

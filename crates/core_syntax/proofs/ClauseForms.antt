@@ -1,25 +1,19 @@
 -- What is to be read for a clause follows its plan.
-use Rattle.std.proofs.Common.{◌≡◌, refl, sym, ap, ◌∙◌, ℕ, suc, ◌+◌, List, [], ◌∷◌, Bool, true, false, ◌&&◌, ◌||◌, pos}
+use Rattle.std.proofs.Common.{◌≡◌, refl, sym, ap, ◌∙◌, ℕ, suc, ◌+◌, List, [], ◌∷◌, Bool, true, false}
 use Rattle.std.specs.Bool.{⊤}
 use Rattle.erl_base.specs.declared.ids.Place.{Place}
-use Rattle.erl_base.specs.Names.{Name}
 use Rattle.core_lex.specs.declared.token.Token.{Token}
 use Rattle.core_lex.specs.declared.token.TokenKind.{TokenKind}
-use Rattle.core_lex.specs.declared.token.TokenKind.TheVariants as K
-use Rattle.core_lex.specs.declared.token.Word as Words
 use Rattle.core_lex.specs.declared.token.Word.TheVariants as W
-use Rattle.core_lex.specs.declared.token.Symbol as Symbols
 use Rattle.core_lex.specs.declared.token.Symbol.TheVariants as S
-use Rattle.core_texts.proofs.Truths.{never}
-use Rattle.core_syntax.specs.declared.sort.Sort.{Sort}
 use Rattle.core_syntax.specs.declared.sort.Sort.TheVariants as O
 use Rattle.core_syntax.specs.declared.item.Count.TheVariants as C
 use Rattle.core_syntax.specs.declared.item.Shape.{Shape}
-use Rattle.core_syntax.specs.declared.item.Shape.TheVariants.{Other, Variable, Clause, Counted, Size}
+use Rattle.core_syntax.specs.declared.item.Shape.TheVariants.{Other, Variable, Clause, Counted}
 use Rattle.core_syntax.specs.declared.item.Part.TheVariants as P
 use Rattle.core_syntax.specs.declared.item.Item.TheVariants as I
 use Rattle.core_syntax.specs.declared.item.Entry.{Entry}
-use Rattle.core_grammar.specs.WrittenTree.{Tree, noted, angled, clause}
+use Rattle.core_grammar.specs.WrittenTree.{Tree, angled, clause}
 use Rattle.core_grammar.specs.Standing as G
 use Rattle.core_grammar.specs.Standing.{Stands}
 use Rattle.core_grammar.specs.Signs.{Sign, on}
@@ -28,7 +22,7 @@ use Rattle.core_texts.proofs.Parts.{Head, whole, part, HeadRight}
 use Rattle.core_texts.proofs.Plans.{symbol_next, done}
 use Rattle.core_texts.proofs.Steps.{rows}
 use Rattle.core_texts.proofs.Bodies.{clause_rest, head_end, head_alias, head_noted, head_plan, clause_end, clause_plan, clauses_plan}
-use Rattle.core_syntax.specs.TokenKinds.{is_symbol, is_word}
+use Rattle.core_syntax.specs.TokenKinds.{is_word}
 use Rattle.core_syntax.specs.Beginnings.{on_test, at, put, guarded}
 use Rattle.core_syntax.specs.Reactions.{react, note, head_note}
 use Rattle.core_syntax.proofs.Choosing.{is_angle, is_paren, is_when, is_equals, chosen_take, not_chosen, kept, left_out, retest}

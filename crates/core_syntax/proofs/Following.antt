@@ -11,7 +11,6 @@ use Rattle.core_grammar.specs.WrittenTree.{Tree, Row, none, more as more_of, Gro
 use Rattle.core_grammar.specs.Standing as G
 use Rattle.core_grammar.specs.ConstantTerms.{count_value}
 use Rattle.core_grammar.specs.Signs.{Sign}
-use Rattle.core_texts.proofs.Truths.{never}
 use Rattle.core_texts.proofs.TokenTests as T
 use Rattle.core_texts.proofs.Annotated.{is_variable_like}
 use Rattle.core_texts.proofs.Parts.{Part, tree_part, items_part, group_part, pairs_part, segment_part, segments_part, head_part, clause_part, clauses_part, definitions_part, attributes_part, module_part, value_part, size_part, unit_part, kind_part, flags_part, flag_part, flag_items_part, Head, whole, part, Value, Right, count_or_none, least, signs_of}

@@ -1,40 +1,35 @@
 -- What is to be read behind `fun` follows its plan.
-use Rattle.std.proofs.Common.{◌≡◌, refl, sym, ap, ◌∙◌, ℕ, suc, ◌+◌, List, [], ◌∷◌, Bool, true, false, ◌&&◌, ◌||◌, pos}
+use Rattle.std.proofs.Common.{◌≡◌, refl, sym, ◌∙◌, ℕ, suc, List, [], ◌∷◌, true}
 use Rattle.std.specs.Bool.{⊤}
 use Rattle.erl_base.specs.declared.ids.Place.{Place}
-use Rattle.erl_base.specs.Names.{Name}
 use Rattle.core_lex.specs.declared.token.Token.{Token}
 use Rattle.core_lex.specs.declared.token.TokenKind.{TokenKind}
 use Rattle.core_lex.specs.declared.token.TokenKind.TheVariants as K
-use Rattle.core_lex.specs.declared.token.Word as Words
 use Rattle.core_lex.specs.declared.token.Word.TheVariants as W
-use Rattle.core_lex.specs.declared.token.Symbol as Symbols
 use Rattle.core_lex.specs.declared.token.Symbol.TheVariants as S
 use Rattle.core_texts.proofs.Truths.{never}
 use Rattle.core_syntax.specs.declared.sort.Sort.{Sort}
 use Rattle.core_syntax.specs.declared.sort.Sort.TheVariants as O
 use Rattle.core_syntax.specs.declared.item.Count.TheVariants as C
 use Rattle.core_syntax.specs.declared.item.Shape.{Shape}
-use Rattle.core_syntax.specs.declared.item.Shape.TheVariants.{Other, Variable, Clause, Counted, Size}
+use Rattle.core_syntax.specs.declared.item.Shape.TheVariants.{Other}
 use Rattle.core_syntax.specs.declared.item.Part.TheVariants as P
 use Rattle.core_syntax.specs.declared.item.Item.TheVariants as I
 use Rattle.core_syntax.specs.declared.item.Entry.{Entry}
-use Rattle.std.proofs.Common.{arith, eqb}
-use Rattle.std.proofs.lemmas.Bool.{ne_eqb}
-use Rattle.core_grammar.specs.WrittenTree.{Spelled, Row, none, more as more_of, Group, single, angled, external, primop}
+use Rattle.core_grammar.specs.WrittenTree.{external}
 use Rattle.core_grammar.specs.Standing as G
-use Rattle.core_grammar.specs.Signs.{Sign, spelled, token_at, symbol, is_catch_count, row_count, group_count}
+use Rattle.core_grammar.specs.Signs.{spelled, token_at, symbol}
 use Rattle.core_texts.proofs.Plans.{symbol_next, arity_next, done}
 use Rattle.core_texts.proofs.Steps.{atom_plan}
 use Rattle.core_texts.proofs.Trees as T
 use Rattle.core_texts.proofs.Trees.{local_plan, external_plan, fun_plan, arguments_plan, word_plan}
 use Rattle.core_syntax.specs.Sorts.{sort_of}
 use Rattle.core_syntax.specs.TokenKinds.{is_symbol, is_atom}
-use Rattle.core_syntax.specs.Beginnings.{on_test, at, put, external_rest, local_rest, fun_next, arguments, form_next}
-use Rattle.core_syntax.specs.Reactions.{react, catches}
+use Rattle.core_syntax.specs.Beginnings.{on_test, at, put, external_rest, local_rest, fun_next}
+use Rattle.core_syntax.specs.Reactions.{react}
 use Rattle.core_syntax.proofs.Choosing as Choosing
 use Rattle.core_syntax.proofs.Choosing.{is_paren, chosen_take, not_chosen, kept, left_out, retest}
-use Rattle.core_syntax.proofs.Following.{Follows, a_tree, items, group, a_clause, clauses, definitions, counted, group_counted}
+use Rattle.core_syntax.proofs.Following.{Follows, a_tree, items}
 use Rattle.core_syntax.proofs.Pieces.{at_atom}
 use Rattle.core_syntax.proofs.BracketForms.{other_counts}
 

@@ -1,35 +1,26 @@
 -- What is to be read for a module and its parts follows their plans.
-use Rattle.std.proofs.Common.{◌≡◌, refl, sym, ap, ◌∙◌, ℕ, suc, ◌+◌, List, [], ◌∷◌, Bool, true, false}
+use Rattle.std.proofs.Common.{refl, sym, ◌∙◌, ℕ, suc, List, [], ◌∷◌, true}
 use Rattle.std.specs.Bool.{⊤}
-use Rattle.erl_base.specs.declared.ids.Place.{Place}
 use Rattle.core_lex.specs.declared.token.Word.TheVariants as W
 use Rattle.core_lex.specs.declared.token.Symbol.TheVariants as S
-use Rattle.core_lex.specs.declared.token.TokenKind.TheVariants.{Symbol}
-use Rattle.core_grammar.specs.WrittenTree.{Spelled, Tree, Row, none, more as more_of, Attributes, no_attribute, attribute, angled}
+use Rattle.core_grammar.specs.WrittenTree.{Spelled, Row, none, more as more_of, Attributes, no_attribute, attribute}
 use Rattle.core_grammar.specs.Standing as G
 use Rattle.core_grammar.specs.Standing.{Stands, RowStands, AttributesStand}
-use Rattle.core_grammar.specs.Signs.{Sign, kept_word}
-use Rattle.core_texts.proofs.Truths.{never}
-use Rattle.core_texts.proofs.Parts.{is_strict}
-use Rattle.core_texts.proofs.Plans.{symbol_next, done}
+use Rattle.core_grammar.specs.Signs.{kept_word}
+use Rattle.core_texts.proofs.Plans.{symbol_next}
 use Rattle.core_texts.proofs.Steps.{rows}
-use Rattle.core_texts.proofs.Bodies.{items_plan, group_plan, pair_end, arrow_plan, pairs_plan, loose_plan, strict_plan, open_segment, segment_plan, segments_plan, definitions_plan, attributes_plan, module_definitions, module_attributes, module_plan}
-use Rattle.core_syntax.specs.declared.sort.Sort.{Sort}
+use Rattle.core_texts.proofs.Bodies.{definitions_plan, attributes_plan, module_definitions, module_attributes, module_plan}
 use Rattle.core_syntax.specs.declared.sort.Sort.TheVariants as O
-use Rattle.core_syntax.specs.declared.item.Count.{Count}
 use Rattle.core_syntax.specs.declared.item.Count.TheVariants as C
 use Rattle.core_syntax.specs.declared.item.Shape.{Shape}
 use Rattle.core_syntax.specs.declared.item.Shape.TheVariants.{Other, Counted}
 use Rattle.core_syntax.specs.declared.item.Part.TheVariants as P
 use Rattle.core_syntax.specs.declared.item.Item.TheVariants as I
 use Rattle.core_syntax.specs.declared.item.Entry.{Entry}
-use Rattle.core_syntax.specs.Sorts.{sort_of, of_items, of_keys, of_values}
-use Rattle.core_syntax.specs.TokenKinds.{is_symbol}
-use Rattle.core_syntax.specs.Beginnings.{on_test, at, put, more, segment_items, loose_segment, strict_segment, module_items, module_rest}
-use Rattle.core_syntax.specs.Reactions.{unit_of}
-use Rattle.core_syntax.proofs.Choosing.{is_comma, is_angle, is_paren, is_exactly, chosen_take, not_chosen, chosen, kept, left_out, is_opening, is_atom, not_begun, retest, unit_is}
-use Rattle.core_syntax.proofs.Following.{Follows, a_tree, items, pairs, a_segment, segments, definitions, attributes, a_module, a_value, a_size, a_unit, a_kind, flags}
-use Rattle.core_syntax.proofs.Pieces.{starts_as, at_angle, at_atom, at_segment, item_tree, key_tree, value_tree}
+use Rattle.core_syntax.specs.Beginnings.{at, put, module_items, module_rest}
+use Rattle.core_syntax.proofs.Choosing.{is_comma, is_paren, chosen_take, not_chosen, kept, left_out, is_atom, not_begun, retest}
+use Rattle.core_syntax.proofs.Following.{Follows, a_tree, items, definitions, attributes, a_module}
+use Rattle.core_syntax.proofs.Pieces.{starts_as, at_atom}
 
 -- Modules.
 

@@ -1,7 +1,6 @@
 -- The characters of a variable, one by one.
 use Rattle.std.proofs.Common.{arith, ◌≡◌, refl, sym, ap, ◌∙◌, ℕ, List, [], ◌∷◌, ◌++◌, Bool, true, false, ◌&&◌, length, chars, IsUtf8, encode_utf8}
 use Rattle.std.proofs.lemmas.Str.{chars_past_char, chars-nil}
-use Rattle.core_form.specs.SourceTree.{is_variable_name}
 use Rattle.core_syntax.specs.TokenKinds.{goes_on, is_name_rest}
 
 one_more : (b : Bool) (c : ℕ) (cs : List ℕ) → is_name_rest b (c ∷ cs) ≡ (goes_on b c && is_name_rest true cs)

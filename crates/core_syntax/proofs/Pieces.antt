@@ -1,39 +1,31 @@
 -- Pieces of plans, and what is to be read for each.
-use Rattle.std.proofs.Common.{◌≡◌, refl, sym, ap, ◌∙◌, ℕ, List, [], ◌∷◌, Bool, true, false}
+use Rattle.std.proofs.Common.{◌≡◌, ◌∙◌, ℕ, List, true, false}
 use Rattle.std.specs.Bool.{⊤}
 use Rattle.erl_base.specs.declared.ids.Place.{Place}
 use Rattle.core_lex.specs.declared.token.Token.{Token}
 use Rattle.core_lex.specs.declared.token.TokenKind.{TokenKind}
 use Rattle.core_lex.specs.declared.token.TokenKind.TheVariants.{Symbol, Atom}
-use Rattle.core_lex.specs.declared.token.Word.TheVariants as W
 use Rattle.core_lex.specs.declared.token.Symbol.TheVariants as S
-use Rattle.core_grammar.specs.WrittenTree.{Spelled, Tree, Row, none, more as more_of, Pairs, Segments, Clauses, Definitions, Attributes}
+use Rattle.core_grammar.specs.WrittenTree.{Spelled}
 use Rattle.core_grammar.specs.Standing as G
 use Rattle.core_grammar.specs.Standing.{Stands, RowStands, PairsStand, SegmentsStand, ClausesStand, DefinitionsStand, AttributesStand}
-use Rattle.core_grammar.specs.Signs.{Sign, spelled, token_at, symbol, kept_word, on, row_on, pairs_on, segments_on, clauses_on, definitions_on, attributes_on}
+use Rattle.core_grammar.specs.Signs.{Sign, spelled, token_at}
 use Rattle.core_texts.proofs.Truths.{never}
 use Rattle.core_texts.proofs.Parts as T
 use Rattle.core_texts.proofs.Parts.{is_strict, all_bits}
 use Rattle.core_texts.proofs.Plans.{Plan, done, symbol_next, word_next, arity_next, look, call, bracket, if_next}
-use Rattle.core_texts.proofs.Steps.{is_atom_kind, from_atom, from_angle, is_segment, from_segment, note_plan, rows, some_pairs_plan, some_segments_plan, some_clauses_plan, some_definitions_plan, some_attributes_plan}
+use Rattle.core_texts.proofs.Steps.{is_atom_kind, from_atom, from_angle, is_segment, from_segment}
 use Rattle.core_texts.proofs.Fronts.{is_angle}
-use Rattle.core_texts.proofs.Bodies.{clause_rest}
 use Rattle.core_syntax.specs.declared.sort.Sort.{Sort}
 use Rattle.core_syntax.specs.declared.sort.Sort.TheVariants as O
 use Rattle.core_syntax.specs.declared.item.Count.{Count}
-use Rattle.core_syntax.specs.declared.item.Count.TheVariants as C
 use Rattle.core_syntax.specs.declared.item.Shape.{Shape}
-use Rattle.core_syntax.specs.declared.item.Shape.TheVariants.{Other, Counted}
 use Rattle.core_syntax.specs.declared.item.Part as Parts
 use Rattle.core_syntax.specs.declared.item.Part.TheVariants as P
-use Rattle.core_syntax.specs.declared.item.Item.TheVariants as I
 use Rattle.core_syntax.specs.declared.item.Entry.{Entry}
 use Rattle.core_syntax.specs.Sorts.{sort_of, inner, of_items, of_keys, of_values}
-use Rattle.core_syntax.specs.TokenKinds.{is_symbol, is_word, opens}
-use Rattle.core_syntax.specs.Beginnings.{on_test, at, put, guarded}
-use Rattle.core_syntax.specs.Reactions.{react, note}
-use Rattle.core_syntax.proofs.Choosing.{begun, not_begun}
-use Rattle.core_syntax.proofs.Following.{Follows, Enters, a_tree, items, pairs, segments, clauses, definitions, attributes, counted}
+use Rattle.core_syntax.specs.Reactions.{react}
+use Rattle.core_syntax.proofs.Following.{Follows, Enters, a_tree, items}
 
 -- the same where a token does the same
 pub starts_as : {w : T.Part} {k : List Sign → List Sign} (P : Plan w k) (p : Parts.Part) (rest : List Entry)

@@ -1,21 +1,15 @@
 -- What is to be read for a part follows its plan: trees, and all parts.
-use Rattle.std.proofs.Common.{◌≡◌, refl, sym, ap, ◌∙◌, ℕ, suc, ◌+◌, List, [], ◌∷◌, Bool, true, false, ◌&&◌, ◌||◌, pos}
+use Rattle.std.proofs.Common.{◌≡◌, refl, sym, ap, ◌∙◌, ℕ, suc, ◌+◌, List, ◌∷◌, true, false}
 use Rattle.std.specs.Bool.{⊤}
 use Rattle.erl_base.specs.declared.ids.Place.{Place}
-use Rattle.erl_base.specs.Names.{Name}
-use Rattle.core_lex.specs.declared.token.Token.{Token}
 use Rattle.core_lex.specs.declared.token.TokenKind.{TokenKind}
 use Rattle.core_lex.specs.declared.token.TokenKind.TheVariants as K
-use Rattle.core_lex.specs.declared.token.Word as Words
-use Rattle.core_lex.specs.declared.token.Word.TheVariants as W
-use Rattle.core_lex.specs.declared.token.Symbol as Symbols
 use Rattle.core_lex.specs.declared.token.Symbol.TheVariants as S
 use Rattle.core_texts.proofs.Truths.{never}
 use Rattle.core_syntax.specs.declared.sort.Sort.{Sort}
 use Rattle.core_syntax.specs.declared.sort.Sort.TheVariants as O
-use Rattle.core_syntax.specs.declared.item.Count.TheVariants as C
 use Rattle.core_syntax.specs.declared.item.Shape.{Shape}
-use Rattle.core_syntax.specs.declared.item.Shape.TheVariants.{Other, Variable, Clause, Counted, Size}
+use Rattle.core_syntax.specs.declared.item.Shape.TheVariants.{Other}
 use Rattle.core_syntax.specs.declared.item.Part.TheVariants as P
 use Rattle.core_syntax.specs.declared.item.Item.TheVariants as I
 use Rattle.core_syntax.specs.declared.item.Entry.{Entry}
@@ -32,7 +26,7 @@ use Rattle.core_syntax.specs.declared.item.Part as Parts
 use Rattle.core_syntax.specs.Sorts.{sort_of}
 use Rattle.core_syntax.specs.TokenKinds.{is_symbol}
 use Rattle.core_syntax.specs.Beginnings.{on_test, at, tree, tree_next, tree_shape}
-use Rattle.core_syntax.specs.Reactions.{react, note, key_weight_of}
+use Rattle.core_syntax.specs.Reactions.{note, key_weight_of}
 use Rattle.core_syntax.proofs.Choosing.{is_paren}
 use Rattle.core_syntax.proofs.Following.{Follows, Enters, a_tree, items, group, pairs, a_segment, segments, a_head, a_clause, clauses, definitions, attributes, a_module, a_value, a_size, a_unit, a_kind, flags, a_flag, flag_items, variable_shape}
 use Rattle.core_syntax.proofs.BracketForms.{other_counts, variable_follows, atom_follows, bracket_follows}

@@ -1,5 +1,5 @@
 -- What the next token does: what is to be read when it is taken, and how deep it is.
-use Rattle.std.specs.Prelude.{◌+◌, ℕ, suc, List, [], ◌∷◌, Bool, true, false, not, ◌&&◌, ◌||◌, leb, pos, Some, codes}
+use Rattle.std.specs.Prelude.{◌+◌, ℕ, suc, List, [], ◌∷◌, Bool, true, false, not, ◌&&◌, ◌||◌, leb, pos, codes}
 use Rattle.std.specs.List.{list_all}
 use Rattle.erl_base.specs.Names.{same_name}
 use Rattle.erl_term.specs.Ranges.{is_within_128}

@@ -2,14 +2,12 @@
 use Rattle.std.specs.Prelude.{◌+◌, ℕ, suc, List, [], ◌∷◌, Bool, true, false, ◌&&◌, Option, None, Some, ◌≡◌, ◌≤◌, ◌<◌, ⊤}
 use Rattle.core_lex.specs.declared.token.Token.{Token}
 use Rattle.core_lex.specs.declared.token.TokenKind.{TokenKind}
-use Rattle.core_lex.specs.declared.token.Word as Words
 use Rattle.core_lex.specs.declared.token.Word.TheVariants as W
 use Rattle.core_lex.specs.declared.token.Symbol as Symbols
 use Rattle.core_lex.specs.declared.token.Symbol.TheVariants as S
 use Rattle.core_grammar.specs.Texts.{most_depth}
 use Rattle.core_syntax.specs.declared.sort.Sort.{Sort}
 use Rattle.core_syntax.specs.declared.sort.Sort.TheVariants as O
-use Rattle.core_syntax.specs.declared.item.Count as Counts
 use Rattle.core_syntax.specs.declared.item.Count.TheVariants as C
 use Rattle.core_syntax.specs.declared.item.Shape.{Shape}
 use Rattle.core_syntax.specs.declared.item.Shape.TheVariants.{Other, Variable, Clause, Counted, Size}

@@ -1,4 +1,4 @@
-use Rattle.std.proofs.Common.{◌≡◌, ◌∷◌, [], rules, sym, subst, ap, ◌∙◌}
+use Rattle.std.proofs.Common.{◌≡◌, ◌∷◌, [], rules, sym, subst}
 use Rattle.core_syntax.specs.declared.item.Shape.TheVariants.{Other}
 use Rattle.core_syntax.specs.declared.item.Part.TheVariants as P
 use Rattle.core_syntax.specs.declared.item.Item.TheVariants as I
