@@ -12,6 +12,7 @@
 #![tactic(auto)]
 
 mod calls;
+mod cuts;
 mod print;
 mod syntax;
 mod tokens;
@@ -23,6 +24,7 @@ use std::test::Fail;
 enum Kind {
     Tokens,
     Syntax,
+    Cuts,
     Print,
     Calls,
 }
@@ -32,6 +34,7 @@ impl Show for Kind {
         match self {
             Kind::Tokens => tokens::show(rt, row),
             Kind::Syntax => syntax::show(rt, row),
+            Kind::Cuts => cuts::show(rt, row),
             Kind::Print => print::show(rt, row),
             Kind::Calls => calls::show(rt, row),
         }
@@ -41,6 +44,7 @@ impl Show for Kind {
 fn main(rt: HostRuntime) -> Result<(), Fail> {
     show_all(&rt, &Kind::Tokens, "tokens.rows")?;
     show_all(&rt, &Kind::Syntax, "syntax.rows")?;
+    show_all(&rt, &Kind::Cuts, "cuts.rows")?;
     show_all(&rt, &Kind::Print, "print.rows")?;
     show_all(&rt, &Kind::Calls, "calls.rows")
 }

@@ -113,7 +113,8 @@ external_follows s d p h es known start sh q = (
           λ t i. retest _ _ _ _ _ (sym (Choosing.is_atom t.kind)),
           at_atom (P.Tree s) es
               (λ r. token_at (suc d) p (K.Word W.Fun) (spelled (suc d) m (symbol (suc d) S.Colon r))) (suc d)
-              (λ f. symbol_next true (suc d) S.Slash (arity_next (suc d) λ n i. done (external p m f n) (h, i) (λ r. refl)))
+              (λ f. symbol_next true (suc d) S.Slash
+              (arity_next (suc d) λ n i. done (external p m f n) (h, i) (λ r. refl)))
               (put (suc d) (I.Symbol S.Slash ∷ I.Arity ∷ []) es) Other (λ f. (
                 _,
                 Other,
