@@ -19,7 +19,7 @@ use Rattle.core_syntax.specs.declared.item.Entry.{Entry}
 use Rattle.core_syntax.specs.TokenKinds as T
 use Rattle.core_syntax.specs.TokenKinds.{is_symbol, is_word, opens}
 use Rattle.core_syntax.specs.Beginnings.{Reaction, taken, on_test, choose, at, begin}
-use Rattle.core_syntax.specs.Reactions.{react, on_pass, unless, unit_of}
+use Rattle.core_syntax.specs.Reactions.{react, on_pass, unless, unit_wanted}
 
 pub is_comma : (k : TokenKind) → F.is_comma k ≡ is_symbol S.Comma k
 is_comma (Symbol S.Comma) = refl
@@ -104,5 +104,5 @@ retest b c d es sh h = ap (λ x. on_test x d es sh) h
 
 -- the unit for a size
 pub unit_is : (b : Bool) (d : ℕ) (es : List Entry) (n : ℕ) (sh : Shape) → sh ≡ Size n
-    → on_test b d (at d (unit_of sh) ∷ es) Other ≡ on_test b d (at d (I.Part (P.Unit n)) ∷ es) Other
-unit_is b d es n sh h = ap (λ x. on_test b d (at d (unit_of x) ∷ es) Other) h
+    → on_test b d (at d (unit_wanted sh) ∷ es) Other ≡ on_test b d (at d (I.Part (P.Unit n)) ∷ es) Other
+unit_is b d es n sh h = ap (λ x. on_test b d (at d (unit_wanted x) ∷ es) Other) h

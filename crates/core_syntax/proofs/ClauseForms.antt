@@ -23,7 +23,7 @@ use Rattle.core_texts.proofs.Plans.{symbol_next, done}
 use Rattle.core_texts.proofs.Steps.{rows}
 use Rattle.core_texts.proofs.Bodies.{clause_rest, head_end, head_alias, head_noted, head_plan, clause_end, clause_plan, clauses_plan}
 use Rattle.core_syntax.specs.TokenKinds.{is_word}
-use Rattle.core_syntax.specs.Beginnings.{on_test, at, put, guarded}
+use Rattle.core_syntax.specs.Beginnings.{on_test, at, stacked, guarded}
 use Rattle.core_syntax.specs.Reactions.{react, note, head_note}
 use Rattle.core_syntax.proofs.Choosing.{is_angle, is_paren, is_when, is_equals, chosen_take, not_chosen, kept, left_out, retest}
 use Rattle.core_syntax.proofs.Following.{Follows, a_tree, items, a_head, a_clause, clauses, variable_shape, head_shape}
@@ -215,8 +215,8 @@ head_noted_follows d p (part x) k es sh c = (
 -- what is to be read behind `<`
 abbrev behind_angle : ℕ → List Entry → List Entry
 behind_angle d es =
-    put (suc d) (I.Maybe (P.Items O.Pattern C.Zero) ∷ I.Symbol S.CloseAngle ∷ I.Word W.When ∷ [])
-    (put (suc d) guarded (at d (I.Becomes Clause) ∷ es))
+    stacked (suc d) (I.Maybe (P.Items O.Pattern C.Zero) ∷ I.Symbol S.CloseAngle ∷ I.Word W.When ∷ [])
+    (stacked (suc d) guarded (at d (I.Becomes Clause) ∷ es))
 
 pub head_follows : (d : ℕ) (es : List Entry) (sh : Shape)
     → Follows P.Head es (head_plan d) (λ x. ⊤) (at d (I.Part P.Head) ∷ es) sh
@@ -325,7 +325,7 @@ head_follows d es sh = (
 -- `when` behind a pattern
 clause_end_is : (b : Bool) (t : Token) (d : ℕ) (es : List Entry)
     → react t (at d I.ClauseEnd ∷ es) (variable_shape b)
-    ≡ on_test (is_word W.When t.kind) (suc d) (put (suc d) guarded es) Other
+    ≡ on_test (is_word W.When t.kind) (suc d) (stacked (suc d) guarded es) Other
 clause_end_is true t d es = refl
 clause_end_is false t d es = refl
 

@@ -25,7 +25,7 @@ use Rattle.core_texts.proofs.Trees as T
 use Rattle.core_texts.proofs.Trees.{local_plan, external_plan, fun_plan, arguments_plan, word_plan}
 use Rattle.core_syntax.specs.Sorts.{sort_of}
 use Rattle.core_syntax.specs.TokenKinds.{is_symbol, is_atom}
-use Rattle.core_syntax.specs.Beginnings.{on_test, at, put, external_rest, local_rest, fun_next}
+use Rattle.core_syntax.specs.Beginnings.{on_test, at, stacked, external_rest, local_rest, fun_next}
 use Rattle.core_syntax.specs.Reactions.{react}
 use Rattle.core_syntax.proofs.Choosing as Choosing
 use Rattle.core_syntax.proofs.Choosing.{is_paren, chosen_take, not_chosen, kept, left_out, retest}
@@ -37,7 +37,7 @@ use Rattle.core_syntax.proofs.BracketForms.{other_counts}
 
 local_follows : (d : ℕ) (p : Place) (es : List Entry) (known : TokenKind → Type 0) (start : List Entry) (sh : Shape)
     → ((t : Token) → known t.kind
-    → react t start sh ≡ on_test (is_symbol S.OpenParen t.kind) (suc d) (put (suc d) local_rest es) Other)
+    → react t start sh ≡ on_test (is_symbol S.OpenParen t.kind) (suc d) (stacked (suc d) local_rest es) Other)
     → Follows (P.Tree O.Expression) es (local_plan G.expression d p refl) known start sh
 local_follows d p es known start sh q = (
   _,
@@ -93,29 +93,29 @@ local_follows d p es known start sh q = (
 external_follows : (s : Sort) (d : ℕ) (p : Place) (h : G.takes_constant (sort_of s) ≡ true) (es : List Entry)
     (known : TokenKind → Type 0) (start : List Entry) (sh : Shape)
     → ((t : Token) → known t.kind
-    → react t start sh ≡ on_test (is_atom t.kind) (suc d) (put (suc d) external_rest es) Other)
+    → react t start sh ≡ on_test (is_atom t.kind) (suc d) (stacked (suc d) external_rest es) Other)
     → Follows (P.Tree s) es (external_plan (sort_of s) d p h) known start sh
 external_follows s d p h es known start sh q = (
-  λ x. put (suc d) external_rest es,
+  λ x. stacked (suc d) external_rest es,
   λ x. Other,
   λ t i. q t i ∙ retest _ _ _ _ _ (sym (Choosing.is_atom t.kind)),
   at_atom (P.Tree s) es (λ r. token_at (suc d) p (K.Word W.Fun) r) (suc d)
       (λ m. symbol_next true (suc d) S.Colon (atom_plan (suc d) λ f. symbol_next true (suc d) S.Slash
       (arity_next (suc d) λ n i. done (external p m f n) (h, i) (λ r. refl))))
-      (put (suc d) external_rest es) Other
+      (stacked (suc d) external_rest es) Other
       (λ m. (
         _,
         Other,
         λ t i. refl,
         (
-          λ x. put (suc d) (I.Symbol S.Slash ∷ I.Arity ∷ []) es,
+          λ x. stacked (suc d) (I.Symbol S.Slash ∷ I.Arity ∷ []) es,
           λ x. Other,
           λ t i. retest _ _ _ _ _ (sym (Choosing.is_atom t.kind)),
           at_atom (P.Tree s) es
               (λ r. token_at (suc d) p (K.Word W.Fun) (spelled (suc d) m (symbol (suc d) S.Colon r))) (suc d)
               (λ f. symbol_next true (suc d) S.Slash
               (arity_next (suc d) λ n i. done (external p m f n) (h, i) (λ r. refl)))
-              (put (suc d) (I.Symbol S.Slash ∷ I.Arity ∷ []) es) Other (λ f. (
+              (stacked (suc d) (I.Symbol S.Slash ∷ I.Arity ∷ []) es) Other (λ f. (
                 _,
                 Other,
                 λ t i. refl,
@@ -182,10 +182,10 @@ fun_follows O.Fun d p h es = (
     ),
   ),
 )
-fun_follows O.Pattern d p h es = external_follows O.Pattern d p refl es _ (put (suc d) (I.Atom ∷ external_rest) es)
-    Other (λ t i. refl)
-fun_follows O.Constant d p h es = external_follows O.Constant d p refl es _ (put (suc d) (I.Atom ∷ external_rest) es)
-    Other (λ t i. refl)
-fun_follows O.Key d p h es = external_follows O.Key d p refl es _ (put (suc d) (I.Atom ∷ external_rest) es) Other
+fun_follows O.Pattern d p h es =
+    external_follows O.Pattern d p refl es _ (stacked (suc d) (I.Atom ∷ external_rest) es) Other (λ t i. refl)
+fun_follows O.Constant d p h es =
+    external_follows O.Constant d p refl es _ (stacked (suc d) (I.Atom ∷ external_rest) es) Other (λ t i. refl)
+fun_follows O.Key d p h es = external_follows O.Key d p refl es _ (stacked (suc d) (I.Atom ∷ external_rest) es) Other
     (λ t i. refl)
 fun_follows _ d p h es = never h

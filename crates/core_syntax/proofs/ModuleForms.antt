@@ -17,7 +17,7 @@ use Rattle.core_syntax.specs.declared.item.Shape.TheVariants.{Other, Counted}
 use Rattle.core_syntax.specs.declared.item.Part.TheVariants as P
 use Rattle.core_syntax.specs.declared.item.Item.TheVariants as I
 use Rattle.core_syntax.specs.declared.item.Entry.{Entry}
-use Rattle.core_syntax.specs.Beginnings.{at, put, module_items, module_rest}
+use Rattle.core_syntax.specs.Beginnings.{at, stacked, module_items, module_rest}
 use Rattle.core_syntax.proofs.Choosing.{is_comma, is_paren, chosen_take, not_chosen, kept, left_out, is_atom, not_begun, retest}
 use Rattle.core_syntax.proofs.Following.{Follows, a_tree, items, definitions, attributes, a_module}
 use Rattle.core_syntax.proofs.Pieces.{starts_as, at_atom}
@@ -83,12 +83,12 @@ attributes_follow d es sh = (
 
 -- what is to be read behind attributes
 abbrev behind_attributes : ℕ → List Entry → List Entry
-behind_attributes d es = put d (I.Symbol S.CloseBracket ∷ I.Maybe P.Definitions ∷ I.Word W.End ∷ []) es
+behind_attributes d es = stacked d (I.Symbol S.CloseBracket ∷ I.Maybe P.Definitions ∷ I.Word W.End ∷ []) es
 
 -- behind exports
 abbrev behind_exports : ℕ → List Entry → List Entry
 behind_exports d es =
-    put d (I.Symbol S.CloseBracket ∷ I.Word W.Attributes ∷ I.Symbol S.OpenBracket ∷ I.Maybe P.Attributes ∷ [])
+    stacked d (I.Symbol S.CloseBracket ∷ I.Word W.Attributes ∷ I.Symbol S.OpenBracket ∷ I.Maybe P.Attributes ∷ [])
     (behind_attributes d es)
 
 module_definitions_follow : (d : ℕ) (a : Spelled) (xs : Row) (bs : Attributes) (i : RowStands G.a_name xs)
@@ -175,16 +175,16 @@ module_follows d es sh = (
     ),
   ),
   (
-    put d module_items es,
+    stacked d module_items es,
     Other,
     λ t i. not_chosen _ _ _ (sym (is_paren t.kind) ∙ i.1),
     (
-      λ x. put d module_rest es,
+      λ x. stacked d module_rest es,
       λ x. Other,
       λ t i. retest _ _ _ _ _ (sym (is_atom t.kind)),
       at_atom P.Module es (λ r. kept_word d W.Module r) d
           (λ a. symbol_next true d S.OpenBracket (rows G.a_name d λ xs i. module_attributes d a xs i))
-          (put d module_rest es) Other
+          (stacked d module_rest es) Other
           (λ a. (
             _,
             Other,

@@ -21,7 +21,7 @@ use Rattle.core_syntax.specs.declared.item.Part.TheVariants as P
 use Rattle.core_syntax.specs.declared.item.Item.TheVariants as I
 use Rattle.core_syntax.specs.declared.item.Entry.{Entry}
 use Rattle.core_syntax.specs.Sorts.{sort_of, of_items, of_keys, of_values}
-use Rattle.core_syntax.specs.Beginnings.{at, put, more, segment_items, loose_segment, strict_segment}
+use Rattle.core_syntax.specs.Beginnings.{at, stacked, more, segment_items, loose_segment, strict_segment}
 use Rattle.core_syntax.proofs.Choosing.{is_comma, is_angle, is_paren, is_exactly, chosen_take, not_chosen, chosen, kept, left_out, is_opening, retest, unit_is}
 use Rattle.core_syntax.proofs.Following.{Follows, a_tree, items, pairs, a_segment, segments, a_value, a_size, a_unit, a_kind, flags}
 use Rattle.core_syntax.proofs.Pieces.{at_angle, at_segment, item_tree, key_tree, value_tree}
@@ -49,12 +49,12 @@ pub group_follows : (d : ℕ) (es : List Entry) (sh : Shape)
     → Follows P.Group es (group_plan d) (λ x. ⊤) (at d (I.Part P.Group) ∷ es) sh
 group_follows d es sh = (
   (
-    λ x. put d (I.Maybe (P.Items O.Variable C.Zero) ∷ I.CloseGroup ∷ []) es,
+    λ x. stacked d (I.Maybe (P.Items O.Variable C.Zero) ∷ I.CloseGroup ∷ []) es,
     λ x. Other,
     λ t i. chosen_take _ _ _ _ _ (sym (is_angle t.kind) ∙ i.1) ∙ retest _ _ _ _ _ (sym (is_angle t.kind)),
     at_angle P.Group es (λ r. r) d
         (λ p. rows G.a_variable d λ ts i. symbol_next true d S.CloseAngle (done (angled p ts) i (λ r. refl)))
-        (put d (I.Maybe (P.Items O.Variable C.Zero) ∷ I.CloseGroup ∷ []) es) Other
+        (stacked d (I.Maybe (P.Items O.Variable C.Zero) ∷ I.CloseGroup ∷ []) es) Other
         (λ q. (
           (
             P.Items O.Variable C.Zero,
@@ -82,7 +82,7 @@ group_follows d es sh = (
 pair_end_follows : (s : Sort) (d : ℕ) (t : Tree) (i : Stands (G.key_sort (sort_of s)) t) (x : Bool)
     (h : G.takes_pair (sort_of s) x ≡ true) (es : List Entry) (sh : Shape)
     → Follows (P.Pairs s) es (pair_end (sort_of s) d t i x h) (λ x. ⊤)
-    (put d (I.Part (P.Tree (of_items s)) ∷ I.MorePairs s ∷ []) es) sh
+    (stacked d (I.Part (P.Tree (of_items s)) ∷ I.MorePairs s ∷ []) es) sh
 pair_end_follows s d t i x h es sh = (
   P.Tree (of_items s),
   d,
@@ -133,7 +133,7 @@ pairs_follow s d es sh = (
 -- Segments.
 
 loose_follows : (s : Sort) (d : ℕ) (p : Place) (e : is_strict (sort_of s) ≡ false) (es : List Entry) (sh : Shape)
-    → Follows (P.Segment s) es (loose_plan (sort_of s) d p e) (λ x. ⊤) (put d (loose_segment s) es) sh
+    → Follows (P.Segment s) es (loose_plan (sort_of s) d p e) (λ x. ⊤) (stacked d (loose_segment s) es) sh
 loose_follows s d p e es sh = (
   P.Tree (of_values s),
   d,
@@ -197,7 +197,7 @@ loose_follows s d p e es sh = (
 )
 
 strict_follows : (s : Sort) (d : ℕ) (p : Place) (e : is_strict (sort_of s) ≡ true) (es : List Entry) (sh : Shape)
-    → Follows (P.Segment s) es (strict_plan (sort_of s) d p e) (λ x. ⊤) (put d strict_segment es) sh
+    → Follows (P.Segment s) es (strict_plan (sort_of s) d p e) (λ x. ⊤) (stacked d strict_segment es) sh
 strict_follows O.Expression d p e es sh = never e
 strict_follows O.Pattern d p e es sh = never e
 strict_follows s d p e es sh = (
@@ -263,7 +263,7 @@ strict_follows s d p e es sh = (
 )
 
 open_follows : (s : Sort) (d : ℕ) (p : Place) (es : List Entry) (sh : Shape)
-    → Follows (P.Segment s) es (open_segment (sort_of s) d p) (λ x. ⊤) (put d (segment_items s) es) sh
+    → Follows (P.Segment s) es (open_segment (sort_of s) d p) (λ x. ⊤) (stacked d (segment_items s) es) sh
 open_follows O.Expression d p es sh = loose_follows O.Expression d p refl es sh
 open_follows O.Pattern d p es sh = loose_follows O.Pattern d p refl es sh
 open_follows s d p es sh = strict_follows s d p refl es sh
@@ -297,10 +297,10 @@ segment_follows s d es sh = (
     ),
   ),
   (
-    λ x. put d (segment_items s) es,
+    λ x. stacked d (segment_items s) es,
     λ x. Other,
     λ t i. not_chosen _ _ _ (sym (is_paren t.kind) ∙ i.1) ∙ retest _ _ _ _ _ (sym (is_opening t.kind)),
-    at_segment (P.Segment s) es (λ r. r) d (λ p. open_segment (sort_of s) d p) (put d (segment_items s) es) Other
+    at_segment (P.Segment s) es (λ r. r) d (λ p. open_segment (sort_of s) d p) (stacked d (segment_items s) es) Other
         (λ q. open_follows s d q es Other),
   ),
 )

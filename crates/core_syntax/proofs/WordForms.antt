@@ -23,7 +23,7 @@ use Rattle.core_texts.proofs.Trees as T
 use Rattle.core_texts.proofs.Trees.{local_plan, external_plan, fun_plan, arguments_plan, word_plan}
 use Rattle.core_syntax.specs.Sorts.{sort_of}
 use Rattle.core_syntax.specs.TokenKinds.{is_symbol}
-use Rattle.core_syntax.specs.Beginnings.{put, arguments, form_next}
+use Rattle.core_syntax.specs.Beginnings.{stacked, arguments, form_next}
 use Rattle.core_syntax.specs.Reactions.{catches}
 use Rattle.core_syntax.proofs.Choosing as Choosing
 use Rattle.core_syntax.proofs.Choosing.{is_paren, chosen_take, not_chosen, kept, left_out, retest}
@@ -207,11 +207,11 @@ expression_follows d p W.Call h es = (
   ),
 )
 expression_follows d p W.Primop h es = (
-  λ x. put (suc d) arguments es,
+  λ x. stacked (suc d) arguments es,
   λ x. Other,
   λ t i. retest _ _ _ _ _ (sym (Choosing.is_atom t.kind)),
   at_atom (P.Tree O.Expression) es (λ r. token_at (suc d) p (K.Word W.Primop) r) (suc d)
-      (λ a. arguments_plan (suc d) λ ts j. done (primop p a ts) (h, j) (λ r. refl)) (put (suc d) arguments es) Other
+      (λ a. arguments_plan (suc d) λ ts j. done (primop p a ts) (h, j) (λ r. refl)) (stacked (suc d) arguments es) Other
       (λ a. (
         _,
         Other,

@@ -46,9 +46,9 @@ abbrev pub at : ℕ → Item → Entry
 at d i = record { item = i; depth = d }
 
 -- items before others
-abbrev pub put : ℕ → List Item → List Entry → List Entry
-put d [] es = es
-put d (i ∷ is) es = at d i ∷ put d is es
+abbrev pub stacked : ℕ → List Item → List Entry → List Entry
+stacked d [] es = es
+stacked d (i ∷ is) es = at d i ∷ stacked d is es
 
 -- one more
 abbrev pub more : Counts.Count → Counts.Count
@@ -118,7 +118,7 @@ variable_next s d es = es
 -- an arity may follow an atom
 abbrev pub atom_next : Sort → ℕ → List Entry → List Entry
 atom_next O.Expression d es = at d I.NameRest ∷ es
-atom_next O.FunctionName d es = put d (I.Symbol S.Slash ∷ I.Arity ∷ []) es
+atom_next O.FunctionName d es = stacked d (I.Symbol S.Slash ∷ I.Arity ∷ []) es
 atom_next s d es = es
 
 -- ( tree -| note )
@@ -132,11 +132,11 @@ abbrev pub bracket_next : Sort → ℕ → Symbols.Symbol → List Entry → Lis
 bracket_next s d S.OpenParen es = noted_next s d es
 bracket_next s d S.OpenBracket es = at (suc d) (I.ListRest (of_items s)) ∷ es
 bracket_next s d S.OpenBrace es =
-    put (suc d) (I.Maybe (P.Items (of_items s) C.Zero) ∷ I.Symbol S.CloseBrace ∷ []) es
+    stacked (suc d) (I.Maybe (P.Items (of_items s) C.Zero) ∷ I.Symbol S.CloseBrace ∷ []) es
 bracket_next s d S.OpenAngle es =
-    put (suc d) (I.Maybe (P.Items O.Expression C.Zero) ∷ I.Symbol S.CloseAngle ∷ []) es
-bracket_next s d S.OpenMap es = put (suc d) (I.Maybe (P.Pairs s) ∷ I.MapEnd s ∷ []) es
-bracket_next s d S.OpenBinary es = put (suc d) (I.Maybe (P.Segments s) ∷ I.Symbol S.CloseBinary ∷ []) es
+    stacked (suc d) (I.Maybe (P.Items O.Expression C.Zero) ∷ I.Symbol S.CloseAngle ∷ []) es
+bracket_next s d S.OpenMap es = stacked (suc d) (I.Maybe (P.Pairs s) ∷ I.MapEnd s ∷ []) es
+bracket_next s d S.OpenBinary es = stacked (suc d) (I.Maybe (P.Segments s) ∷ I.Symbol S.CloseBinary ∷ []) es
 bracket_next s d _ es = es
 
 abbrev pub an_expression : Item
@@ -153,8 +153,8 @@ external_rest = I.Symbol S.Colon ∷ I.Atom ∷ I.Symbol S.Slash ∷ I.Arity ∷
 
 abbrev pub fun_next : Sort → ℕ → List Entry → List Entry
 fun_next O.Expression d es = at d I.FunRest ∷ es
-fun_next O.Fun d es = put d (I.Symbol S.OpenParen ∷ local_rest) es
-fun_next s d es = put d (I.Atom ∷ external_rest) es
+fun_next O.Fun d es = stacked d (I.Symbol S.OpenParen ∷ local_rest) es
+fun_next s d es = stacked d (I.Atom ∷ external_rest) es
 
 -- ( arguments )
 abbrev pub arguments : List Item
@@ -163,20 +163,20 @@ arguments = I.Symbol S.OpenParen ∷ I.Maybe (P.Items O.Expression C.Zero) ∷ I
 abbrev pub form_next : Sort → ℕ → Words.Word → List Entry → List Entry
 form_next s d W.Fun es = fun_next s d es
 form_next s d W.Let es =
-    put d (I.Part P.Group ∷ I.Symbol S.Equals ∷ an_expression ∷ I.Word W.In ∷ an_expression ∷ []) es
-form_next s d W.Letrec es = put d (I.Maybe P.Definitions ∷ I.Word W.In ∷ an_expression ∷ []) es
+    stacked d (I.Part P.Group ∷ I.Symbol S.Equals ∷ an_expression ∷ I.Word W.In ∷ an_expression ∷ []) es
+form_next s d W.Letrec es = stacked d (I.Maybe P.Definitions ∷ I.Word W.In ∷ an_expression ∷ []) es
 form_next s d W.Case es =
-    put d (an_expression ∷ I.Word W.Of ∷ I.Part P.Clause ∷ I.Maybe P.Clauses ∷ I.Word W.End ∷ []) es
-form_next s d W.Apply es = put d (an_expression ∷ arguments) es
-form_next s d W.Call es = put d (an_expression ∷ I.Symbol S.Colon ∷ an_expression ∷ arguments) es
-form_next s d W.Primop es = put d (I.Atom ∷ arguments) es
-form_next s d W.Do es = put d (an_expression ∷ an_expression ∷ []) es
-form_next s d W.Catch es = put d (an_expression ∷ []) es
+    stacked d (an_expression ∷ I.Word W.Of ∷ I.Part P.Clause ∷ I.Maybe P.Clauses ∷ I.Word W.End ∷ []) es
+form_next s d W.Apply es = stacked d (an_expression ∷ arguments) es
+form_next s d W.Call es = stacked d (an_expression ∷ I.Symbol S.Colon ∷ an_expression ∷ arguments) es
+form_next s d W.Primop es = stacked d (I.Atom ∷ arguments) es
+form_next s d W.Do es = stacked d (an_expression ∷ an_expression ∷ []) es
+form_next s d W.Catch es = stacked d (an_expression ∷ []) es
 form_next s d W.Try es =
-    put d (an_expression ∷ I.Word W.Of ∷ I.Part P.Group ∷ I.Symbol S.Arrow ∷ an_expression ∷ I.Word W.Catch
+    stacked d (an_expression ∷ I.Word W.Of ∷ I.Part P.Group ∷ I.Symbol S.Arrow ∷ an_expression ∷ I.Word W.Catch
     ∷ I.Part P.Group ∷ I.CatchArrow ∷ an_expression ∷ []) es
 form_next s d W.Receive es =
-    put d (I.Maybe P.Clauses ∷ I.Word W.After ∷ an_expression ∷ I.Symbol S.Arrow ∷ an_expression ∷ []) es
+    stacked d (I.Maybe P.Clauses ∷ I.Word W.After ∷ an_expression ∷ I.Symbol S.Arrow ∷ an_expression ∷ []) es
 form_next s d _ es = es
 
 -- what is to be read behind the first token of a tree
@@ -319,15 +319,15 @@ segment_items _ = strict_segment
 
 abbrev pub segment : Sort → ℕ → TokenKind → List Entry → Reaction
 segment s d k es =
-    choose (is_symbol S.OpenParen k) (taken (suc d) (put (suc d) (I.Part (P.Segment s) ∷ I.Noted ∷ []) es) Other)
-    (on_test (is_symbol S.OpenSegment k) d (put d (segment_items s) es) Other)
+    choose (is_symbol S.OpenParen k) (taken (suc d) (stacked (suc d) (I.Part (P.Segment s) ∷ I.Noted ∷ []) es) Other)
+    (on_test (is_symbol S.OpenSegment k) d (stacked d (segment_items s) es) Other)
 
 -- what begins a clause: patterns in angle brackets, an annotated clause or pattern, a pattern
 abbrev pub head : ℕ → TokenKind → List Entry → Reaction
 head d k es =
     choose (is_symbol S.OpenAngle k)
-    (taken (suc d) (put (suc d) (I.Maybe (P.Items O.Pattern C.Zero) ∷ I.Symbol S.CloseAngle ∷ I.Word W.When ∷ [])
-    (put (suc d) guarded (at d (I.Becomes Clause) ∷ es))) Other)
+    (taken (suc d) (stacked (suc d) (I.Maybe (P.Items O.Pattern C.Zero) ∷ I.Symbol S.CloseAngle ∷ I.Word W.When ∷ [])
+    (stacked (suc d) guarded (at d (I.Becomes Clause) ∷ es))) Other)
     (choose (is_symbol S.OpenParen k)
     (taken (suc (suc d)) (at (suc d) (I.Part P.Head) ∷ at d I.NotedHead ∷ es) Other)
     (tree O.Pattern (suc d) k (at d I.HeadEnd ∷ es)))
@@ -351,9 +351,9 @@ begin (P.Tree s) d k es = tree s d k es
 begin (P.Items s n) d k es = tree s d k (at d (I.MoreItems s (more n)) ∷ es)
 begin P.Group d k es =
     choose (is_symbol S.OpenAngle k)
-    (taken d (put d (I.Maybe (P.Items O.Variable C.Zero) ∷ I.CloseGroup ∷ []) es) Other)
+    (taken d (stacked d (I.Maybe (P.Items O.Variable C.Zero) ∷ I.CloseGroup ∷ []) es) Other)
     (tree O.Variable d k (at d (I.Becomes (Counted C.One)) ∷ es))
-begin (P.Pairs s) d k es = tree (of_keys s) d k (put d (I.PairArrow s ∷ []) es)
+begin (P.Pairs s) d k es = tree (of_keys s) d k (stacked d (I.PairArrow s ∷ []) es)
 begin (P.Segment s) d k es = segment s d k es
 begin (P.Segments s) d k es = segment s d k (at d (I.MoreSegments s) ∷ es)
 begin P.Head d k es = head d k es
@@ -361,10 +361,10 @@ begin P.Clause d k es = clause d k es
 begin P.Clauses d k es = clause d k (at d (I.Maybe P.Clauses) ∷ es)
 begin P.Definitions d k es = tree O.FunctionName (suc d) k (at d I.DefinitionRest ∷ es)
 begin P.Attributes d k es =
-    tree O.Atom d k (put d (I.Symbol S.Equals ∷ I.Part (P.Tree O.Constant) ∷ I.MoreAttributes ∷ []) es)
+    tree O.Atom d k (stacked d (I.Symbol S.Equals ∷ I.Part (P.Tree O.Constant) ∷ I.MoreAttributes ∷ []) es)
 begin P.Module d k es =
-    choose (is_symbol S.OpenParen k) (taken (suc d) (put (suc d) (I.Part P.Module ∷ I.Noted ∷ []) es) Other)
-    (on_test (is_word W.Module k) d (put d module_items es) Other)
+    choose (is_symbol S.OpenParen k) (taken (suc d) (stacked (suc d) (I.Part P.Module ∷ I.Noted ∷ []) es) Other)
+    (on_test (is_word W.Module k) d (stacked d module_items es) Other)
 begin P.Value d k es = constant P.Value (takes_value k) (constant_depth d k) d k es Other
 begin P.Size d k es = constant P.Size (takes_size k) (constant_depth d k) d k es (size_shape k)
 begin (P.Unit n) d k es = constant (P.Unit n) (takes_unit n k) (constant_depth d k) d k es Other

@@ -20,7 +20,7 @@ use Rattle.core_syntax.specs.declared.outcome.Outcome.{Outcome}
 use Rattle.core_syntax.specs.declared.outcome.Outcome.TheVariants.{Refused, TooDeep, Taken}
 use Rattle.core_syntax.specs.Sorts.{of_items}
 use Rattle.core_syntax.specs.TokenKinds.{is_symbol, is_word, is_atom, is_end, is_arity_token, opens}
-use Rattle.core_syntax.specs.Beginnings.{Reaction, refused, taken, on_test, choose, at, put, an_expression, local_rest, external_rest, guarded, begin}
+use Rattle.core_syntax.specs.Beginnings.{Reaction, refused, taken, on_test, choose, at, stacked, an_expression, local_rest, external_rest, guarded, begin}
 
 -- ---- what need not stand there
 
@@ -66,7 +66,7 @@ key_weight_of _ = 1
 -- `-|` behind what is annotated, and its note
 abbrev pub note : ℕ → Shape → TokenKind → List Entry → Reaction
 note d sh k es =
-    on_test (is_symbol S.AnnotationBar k) d (put d (I.Part (P.Tree O.Note) ∷ I.Close sh ∷ []) es) Other
+    on_test (is_symbol S.AnnotationBar k) d (stacked d (I.Part (P.Tree O.Note) ∷ I.Close sh ∷ []) es) Other
 
 -- an annotated clause, or an annotated pattern, which is one deeper
 abbrev pub head_note : ℕ → Shape → TokenKind → List Entry → Reaction
@@ -82,7 +82,7 @@ pair_arrow s k = is_symbol S.Association k
 -- the base of a map
 abbrev pub map_end : Sort → ℕ → TokenKind → List Entry → Reaction
 map_end O.Expression d k es =
-    choose (is_symbol S.Bar k) (taken d (put d (an_expression ∷ I.Symbol S.CloseMap ∷ []) es) Other)
+    choose (is_symbol S.Bar k) (taken d (stacked d (an_expression ∷ I.Symbol S.CloseMap ∷ []) es) Other)
     (on_symbol S.CloseMap d k es)
 map_end s d k es = on_symbol S.CloseMap d k es
 
@@ -92,15 +92,15 @@ catches (Counted C.Two) = true
 catches (Counted C.Three) = true
 catches _ = false
 
-abbrev pub unit_of : Shape → Item
-unit_of (Size n) = I.Part (P.Unit n)
-unit_of _ = I.Part (P.Unit 0)
+abbrev pub unit_wanted : Shape → Item
+unit_wanted (Size n) = I.Part (P.Unit n)
+unit_wanted _ = I.Part (P.Unit 0)
 
 -- `(` or an atom behind `fun`
 abbrev pub fun_rest : ℕ → TokenKind → List Entry → Reaction
 fun_rest d k es =
-    choose (is_symbol S.OpenParen k) (taken d (put d local_rest es) Other)
-    (on_test (is_atom k) d (put d external_rest es) Other)
+    choose (is_symbol S.OpenParen k) (taken d (stacked d local_rest es) Other)
+    (on_test (is_atom k) d (stacked d external_rest es) Other)
 
 -- items or none behind `[`
 abbrev pub list_rest : Sort → ℕ → TokenKind → List Entry → Reaction
@@ -114,7 +114,7 @@ flags_rest d k es =
 -- a tail or none behind them
 abbrev pub list_end : Parts.Part → ℕ → TokenKind → List Entry → Reaction
 list_end p d k es =
-    choose (is_symbol S.Bar k) (taken d (put d (I.Part p ∷ I.Symbol S.CloseBracket ∷ []) es) Other)
+    choose (is_symbol S.Bar k) (taken d (stacked d (I.Part p ∷ I.Symbol S.CloseBracket ∷ []) es) Other)
     (on_symbol S.CloseBracket d k es)
 
 -- what a token does where this item is to be read
@@ -133,33 +133,33 @@ at_item t I.NotedHead d sh es = head_note d sh t.kind es
 at_item t (I.Close now) d sh es = on_test (is_symbol S.CloseParen t.kind) d es now
 at_item t I.Alias d sh es =
     on_test (is_symbol S.Equals t.kind) (suc d)
-    (put (suc d) (I.Part (P.Tree O.Pattern) ∷ I.Becomes Other ∷ []) es) Other
-at_item t I.NameRest d sh es = on_test (is_symbol S.Slash t.kind) d (put d (I.Arity ∷ []) es) Other
+    (stacked (suc d) (I.Part (P.Tree O.Pattern) ∷ I.Becomes Other ∷ []) es) Other
+at_item t I.NameRest d sh es = on_test (is_symbol S.Slash t.kind) d (stacked d (I.Arity ∷ []) es) Other
 at_item t I.FunRest d sh es = fun_rest d t.kind es
 at_item t (I.ListRest s) d sh es = list_rest s d t.kind es
 at_item t (I.ListEnd s) d sh es = list_end (P.Tree s) d t.kind es
 at_item t (I.PairArrow s) d sh es =
-    on_test (pair_arrow s t.kind) d (put d (I.Part (P.Tree (of_items s)) ∷ I.MorePairs s ∷ []) es) Other
+    on_test (pair_arrow s t.kind) d (stacked d (I.Part (P.Tree (of_items s)) ∷ I.MorePairs s ∷ []) es) Other
 at_item t (I.MapEnd s) d sh es = map_end s d t.kind es
 at_item t (I.MoreItems s n) d sh es =
-    on_test (is_symbol S.Comma t.kind) d (put d (I.Part (P.Items s n) ∷ []) es) Other
+    on_test (is_symbol S.Comma t.kind) d (stacked d (I.Part (P.Items s n) ∷ []) es) Other
 at_item t (I.MorePairs s) d sh es =
-    on_test (is_symbol S.Comma t.kind) d (put d (I.Part (P.Pairs s) ∷ []) es) Other
+    on_test (is_symbol S.Comma t.kind) d (stacked d (I.Part (P.Pairs s) ∷ []) es) Other
 at_item t (I.MoreSegments s) d sh es =
-    on_test (is_symbol S.Comma t.kind) d (put d (I.Part (P.Segments s) ∷ []) es) Other
+    on_test (is_symbol S.Comma t.kind) d (stacked d (I.Part (P.Segments s) ∷ []) es) Other
 at_item t I.MoreAttributes d sh es =
-    on_test (is_symbol S.Comma t.kind) d (put d (I.Part P.Attributes ∷ []) es) Other
+    on_test (is_symbol S.Comma t.kind) d (stacked d (I.Part P.Attributes ∷ []) es) Other
 at_item t I.MoreFlags d sh es =
-    on_test (is_symbol S.Comma t.kind) d (put d (I.Part P.FlagItems ∷ []) es) Other
+    on_test (is_symbol S.Comma t.kind) d (stacked d (I.Part P.FlagItems ∷ []) es) Other
 at_item t I.CloseGroup d sh es = on_test (is_symbol S.CloseAngle t.kind) d es sh
 at_item t I.CatchArrow d sh es = on_test (catches sh && is_symbol S.Arrow t.kind) d es Other
 at_item t I.HeadEnd d sh es =
-    on_test (is_word W.When t.kind) (suc d) (put (suc d) guarded (at d (I.Becomes Clause) ∷ es)) Other
-at_item t I.ClauseEnd d sh es = on_test (is_word W.When t.kind) (suc d) (put (suc d) guarded es) Other
+    on_test (is_word W.When t.kind) (suc d) (stacked (suc d) guarded (at d (I.Becomes Clause) ∷ es)) Other
+at_item t I.ClauseEnd d sh es = on_test (is_word W.When t.kind) (suc d) (stacked (suc d) guarded es) Other
 at_item t I.DefinitionRest d sh es =
     on_test (is_symbol S.Equals t.kind) (suc d)
     (at (suc d) (I.Part (P.Tree O.Fun)) ∷ at d (I.Maybe P.Definitions) ∷ es) Other
-at_item t I.UnitNext d sh es = on_test (is_symbol S.Comma t.kind) d (put d (unit_of sh ∷ []) es) Other
+at_item t I.UnitNext d sh es = on_test (is_symbol S.Comma t.kind) d (stacked d (unit_wanted sh ∷ []) es) Other
 at_item t I.FlagsRest d sh es = flags_rest d t.kind es
 at_item t I.FlagsEnd d sh es = list_end P.Flags d t.kind es
 

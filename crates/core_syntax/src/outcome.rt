@@ -1,6 +1,6 @@
 // What a token does.
 ghost use Rattle.std.specs.Prelude.{◌≡◌, ◌≤◌, suc, IfOk};
-ghost use Rattle.core_syntax.specs.Beginnings.{on_test, put, taken};
+ghost use Rattle.core_syntax.specs.Beginnings.{on_test, stacked, taken};
 ghost use Rattle.core_syntax.specs.Reactions.{Tells};
 
 use crate::item::{Item, Shape};
@@ -26,7 +26,8 @@ pub fn take(
     items: &[Item],
     shape: Shape,
 ) -> Result<Outcome, NoMemory>
-    ensures { IfOk result (λ told. Tells (on_test holds depth (put depth items.now stack.old) shape) told stack.new) }
+    ensures { IfOk result (λ told.
+        Tells (on_test holds depth (stacked depth items.now stack.old) shape) told stack.new) }
 {
     if !holds {
         return Ok(Outcome::Refused);

@@ -4,7 +4,7 @@ ghost use Rattle.core_lex.specs.declared.token.TokenKind.TheVariants as K;
 ghost use Rattle.core_lex.specs.declared.token.Symbol.TheVariants.{OpenAngle, OpenParen};
 ghost use Rattle.core_syntax.specs.declared.item.Part.TheVariants as P;
 ghost use Rattle.core_syntax.specs.Shallow.{IsConstantPart};
-ghost use Rattle.core_syntax.specs.Beginnings.{put, more, loose_segment, strict_segment, segment_items, segment, head, clause, flag, begin};
+ghost use Rattle.core_syntax.specs.Beginnings.{stacked, more, loose_segment, strict_segment, segment_items, segment, head, clause, flag, begin};
 ghost use Rattle.core_syntax.specs.Reactions.{Tells};
 
 use crate::constants::{
@@ -135,7 +135,7 @@ fn segment(stack: &mut Stack, sort: Sort, depth: u32, kind: &TokenKind) -> Resul
 
 fn segment_items(stack: &mut Stack, sort: Sort, depth: u32) -> Result<(), NoMemory>
     requires { depth ≤ 2000 }
-    ensures { OnOk result (stack.new ≡ put depth (segment_items sort) stack.old) }
+    ensures { OnOk result (stack.new ≡ stacked depth (segment_items sort) stack.old) }
 {
     match sort {
         Sort::Expression | Sort::Pattern => loose_segment(stack, sort, depth),
@@ -153,7 +153,7 @@ fn segment_items(stack: &mut Stack, sort: Sort, depth: u32) -> Result<(), NoMemo
 // value > ( size , unit , type , flags )
 fn loose_segment(stack: &mut Stack, sort: Sort, depth: u32) -> Result<(), NoMemory>
     requires { depth ≤ 2000 }
-    ensures { OnOk result (stack.new ≡ put depth (loose_segment sort) stack.old) }
+    ensures { OnOk result (stack.new ≡ stacked depth (loose_segment sort) stack.old) }
 {
     let comma = Item::Symbol(Symbol::Comma);
     let constant = Item::Part(Part::Tree(Sort::Constant));
@@ -179,7 +179,7 @@ fn loose_segment(stack: &mut Stack, sort: Sort, depth: u32) -> Result<(), NoMemo
 // The same of a constant: all of it tells its bits.
 fn strict_segment(stack: &mut Stack, depth: u32) -> Result<(), NoMemory>
     requires { depth ≤ 2000 }
-    ensures { OnOk result (stack.new ≡ put depth strict_segment stack.old) }
+    ensures { OnOk result (stack.new ≡ stacked depth strict_segment stack.old) }
 {
     let comma = Item::Symbol(Symbol::Comma);
     let flags = Item::Part(Part::Flags);

@@ -4,7 +4,7 @@ ghost use Rattle.core_syntax.specs.declared.item.Item.TheVariants as I;
 ghost use Rattle.core_syntax.specs.declared.item.Shape.TheVariants.{Other};
 ghost use Rattle.core_syntax.specs.Shallow.{IsAround, IsInside};
 ghost use Rattle.core_syntax.specs.Beginnings.{on_test, at};
-ghost use Rattle.core_syntax.specs.Reactions.{passed, alias_passed, clause_passed, unless, note, head_note, key_weight_of, pair_arrow, map_end, catches, unit_of, fun_rest, list_rest, list_end, flags_rest, at_item, Tells};
+ghost use Rattle.core_syntax.specs.Reactions.{passed, alias_passed, clause_passed, unless, note, head_note, key_weight_of, pair_arrow, map_end, catches, unit_wanted, fun_rest, list_rest, list_end, flags_rest, at_item, Tells};
 
 use crate::item::{Count, Entry, Item, Part, Shape};
 use crate::kinds::{is_arity_token, is_atom, is_end, is_symbol, is_word, opens};
@@ -292,7 +292,7 @@ fn inside(stack: &mut Stack, token: &Token, entry: Entry, shape: Shape) -> Resul
         }
         Item::UnitNext => {
             let comma = is_symbol(Symbol::Comma, kind);
-            take(stack, comma, depth, &[unit_of(shape)], Shape::Other)
+            take(stack, comma, depth, &[unit_wanted(shape)], Shape::Other)
         }
         Item::FlagsRest => flags_rest(stack, depth, kind),
         Item::FlagsEnd => list_end(stack, Part::Flags, depth, kind),
@@ -429,8 +429,8 @@ fn catches(shape: Shape) -> bool
     }
 }
 
-fn unit_of(shape: Shape) -> Item
-    ensures { result ≡ unit_of shape }
+fn unit_wanted(shape: Shape) -> Item
+    ensures { result ≡ unit_wanted shape }
 {
     match shape {
         Shape::Size(size) => Item::Part(Part::Unit(size)),

@@ -1,6 +1,6 @@
 // What is still to be read.
 ghost use Rattle.std.specs.Prelude.{◌≡◌, ◌≤◌, [], ◌∷◌, MatchOption, IfSome, OnOk};
-ghost use Rattle.core_syntax.specs.Beginnings.{at, put};
+ghost use Rattle.core_syntax.specs.Beginnings.{at, stacked};
 
 use crate::item::{Entry, Item};
 use erl_base::{List, NoMemory};
@@ -53,7 +53,7 @@ impl Stack {
     /// Items before the others, the first of them next.
     pub fn put(&mut self, depth: u32, items: &[Item]) -> Result<(), NoMemory>
         requires { depth ≤ 2001 }
-        ensures { OnOk result (self.new ≡ put depth items.now self.old) }
+        ensures { OnOk result (self.new ≡ stacked depth items.now self.old) }
     {
         for i in 0..items.len() {
             self.push(depth, items[items.len() - 1 - i])?;
