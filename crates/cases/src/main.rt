@@ -12,7 +12,9 @@
 #![tactic(auto)]
 
 mod calls;
+mod cuts;
 mod print;
+mod syntax;
 mod tokens;
 
 use case_rows::{Show, show_all};
@@ -21,6 +23,8 @@ use std::test::Fail;
 #[derive(Clone, Copy)]
 enum Kind {
     Tokens,
+    Syntax,
+    Cuts,
     Print,
     Calls,
 }
@@ -29,6 +33,8 @@ impl Show for Kind {
     fn show(&self, rt: &HostRuntime, row: &str) -> Result<(), Fail> {
         match self {
             Kind::Tokens => tokens::show(rt, row),
+            Kind::Syntax => syntax::show(rt, row),
+            Kind::Cuts => cuts::show(rt, row),
             Kind::Print => print::show(rt, row),
             Kind::Calls => calls::show(rt, row),
         }
@@ -37,6 +43,8 @@ impl Show for Kind {
 
 fn main(rt: HostRuntime) -> Result<(), Fail> {
     show_all(&rt, &Kind::Tokens, "tokens.rows")?;
+    show_all(&rt, &Kind::Syntax, "syntax.rows")?;
+    show_all(&rt, &Kind::Cuts, "cuts.rows")?;
     show_all(&rt, &Kind::Print, "print.rows")?;
     show_all(&rt, &Kind::Calls, "calls.rows")
 }

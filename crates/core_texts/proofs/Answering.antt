@@ -8,7 +8,7 @@ use Rattle.core_grammar.specs.WrittenTree.{Written}
 use Rattle.core_grammar.specs.Standing.{IsModule}
 use Rattle.core_grammar.specs.Signs.{of_kind, Sign, plain_sign, module_on, signs, FitFront}
 use Rattle.core_grammar.specs.ModuleOf.{module_of}
-use Rattle.core_grammar.specs.Texts.{BeginsModule, NestsWithin, IsDeeper, FirstSyntaxFault, last_depth, most_depth}
+use Rattle.core_grammar.specs.Texts.{BeginsModule, NestsWithin, IsDeeper, FirstSyntaxFault, NestingFault, last_depth, most_depth}
 use Rattle.core_texts.specs.Answers.{TextAnswer, is_text, has_syntax_fault, has_nesting_fault}
 use Rattle.core_texts.proofs.Cuts.{assoc}
 use Rattle.core_texts.proofs.Truths.{never}
@@ -136,20 +136,25 @@ deeper_everywhere before t s u d l e h m i f =
     let c : d ≡ x.went.depth = ap (depth_or d) (sym e ∙ x.went.is) in
     omega (arith, a, b, c, h)
 
+pub too_deep : (before : List Token) (t : Token) (later : List Token) (s u : State) (d : ℕ) → Led before s
+    → step body t s ≡ Some (u, d) → Reached before t d → most_depth < d
+    → NestingFault (before ++ t ∷ later) t.place
+too_deep before t later s u d l e r h = record {
+  before = before;
+  token = t;
+  cut = record { later = later; cut = refl };
+  within = l.within;
+  deep = record {
+    begins = reached_begins before t d r;
+    deeper = deeper_everywhere before t s u d l e h;
+  };
+  place = refl;
+}
+
 nesting_fault : (before : List Token) (t : Token) (later : List Token) (s u : State) (d : ℕ) → Led before s
     → step body t s ≡ Some (u, d) → Reached before t d → most_depth < d → TextAnswer (before ++ t ∷ later)
 nesting_fault before t later s u d l e r h =
-    has_nesting_fault t.place (record {
-      before = before;
-      token = t;
-      cut = record { later = later; cut = refl };
-      within = l.within;
-      deep = record {
-        begins = reached_begins before t d r;
-        deeper = deeper_everywhere before t s u d l e h;
-      };
-      place = refl;
-    })
+    has_nesting_fault t.place (too_deep before t later s u d l e r h)
 
 pub led_on : (before : List Token) (t : Token) (s u : State) (d : ℕ) → Led before s → step body t s ≡ Some (u, d)
     → Sound before t u d → d ≤ most_depth → Led (before ++ t ∷ []) u

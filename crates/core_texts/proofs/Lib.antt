@@ -1,30 +1,30 @@
 mod Cuts
 mod Faults
-mod Truths
-mod TokenTests
-mod Fronts
+pub mod Truths
+pub mod TokenTests
+pub mod Fronts
 mod Opens
-mod Parts
+pub mod Parts
 mod Least
 mod Bits
-mod Overs
-mod Plans
-mod Stacks
-mod Sound
-mod Complete
-mod Steps
-mod Annotated
-mod Trees
-mod Constants
-mod Bodies
-mod Quick
+pub mod Overs
+pub mod Plans
+pub mod Stacks
+pub mod Sound
+pub mod Complete
+pub mod Steps
+pub mod Annotated
+pub mod Trees
+pub mod Constants
+pub mod Bodies
+pub mod Quick
 mod Ways
 mod TreeWays
 mod ClauseWays
 mod ConstantWays
 mod PartWays
-mod Tracks
+pub mod Tracks
 mod OneTree
-mod Answering
+pub mod Answering
 mod Computed
 mod Depths

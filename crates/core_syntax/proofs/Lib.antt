@@ -1,0 +1,15 @@
+mod Shallowness
+mod Following
+mod Choosing
+mod Pieces
+mod PartForms
+mod ModuleForms
+mod ClauseForms
+mod ConstantForms
+mod BracketForms
+mod FunForms
+mod WordForms
+mod TreeForms
+mod Names
+mod Words
+mod Accepting
