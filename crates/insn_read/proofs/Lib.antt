@@ -1,0 +1,3 @@
+mod ListRows
+mod TermForms
+mod Words
