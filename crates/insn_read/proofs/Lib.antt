@@ -1,3 +1,6 @@
 mod ListRows
+mod Listed
+mod OpcodeArms
+mod OpcodeNames
 mod TermForms
 mod Words

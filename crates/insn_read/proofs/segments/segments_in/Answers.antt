@@ -36,7 +36,7 @@ returns-then-not-is_empty c =
 pub returns-in_err-segment : goal.returns-in_err-segment
 returns-in_err-segment c =
     let stop : segment_in (map view c.in-Some.six.now) ≡ None → segments_in (map view c.args.terms.now) ≡ None = λ k.
-        c.left.invariant.read
-        ∙ ap (λ ts. joined (map segment_view c.left.segments) (segments_in (map view ts))) c.in-Some.ensures.1
-        ∙ segment_stop c.in-Some.six.now c.in-Some.others.now (map segment_view c.left.segments) c.in-Some.ensures.0 k in
+    c.left.invariant.read
+    ∙ ap (λ ts. joined (map segment_view c.left.segments) (segments_in (map view ts))) c.in-Some.ensures.1
+    ∙ segment_stop c.in-Some.six.now c.in-Some.others.now (map segment_view c.left.segments) c.in-Some.ensures.0 k in
     search (rules, stop)
