@@ -1,5 +1,6 @@
 -- Rows that are read one by one: what was read, before what is left.
-use Rattle.std.proofs.Common.{◌≡◌, ◌==◌, ◌<◌, length, arith, refl, sym, ap, ◌∙◌, subst, List, [], ◌∷◌, ◌++◌, Option, Some, None, Bool, true, false, ◌&&◌, ◌||◌, if◌then◌else◌, map, append_assoc, IsTrue, codes}
+use Rattle.std.proofs.Common.{ℕ, ◌≡◌, ◌==◌, ◌<◌, length, take, drop, arith, refl, sym, ap, ◌∙◌, subst, List, [], ◌∷◌, ◌++◌, Option, Some, None, Bool, true, false, ◌&&◌, ◌||◌, if◌then◌else◌, map, append_assoc, IsTrue, codes}
+use Rattle.std.proofs.lemmas.List.{take-append-drop}
 use Rattle.erl_base.specs.Names.{Name, same_name}
 use Rattle.erl_term.specs.Term.{Term}
 use Rattle.erl_term.specs.declared.term.Term.{Term as Value}
@@ -149,3 +150,9 @@ front_normal (t ∷ ts) us n =
 pub back_normal : (ts us : List Value) → AllNormal (ts ++ us) → AllNormal us
 back_normal [] us n = n
 back_normal (t ∷ ts) us n = back_normal ts us (others_normal t (ts ++ us) n)
+
+-- what is left behind the first
+pub behind_first : (n : ℕ) (ts : List Value) → AllNormal ts → AllNormal (take n (drop 1 ts))
+behind_first n ts h =
+    let d : AllNormal (drop 1 ts) = back_normal (take 1 ts) (drop 1 ts) (subst AllNormal (sym (take-append-drop 1 ts)) h) in
+    front_normal (take n (drop 1 ts)) (drop n (drop 1 ts)) (subst AllNormal (sym (take-append-drop n (drop 1 ts))) d)

@@ -172,10 +172,9 @@ pub(crate) fn insn_by(alloc: Global, opcode: Opcode, terms: &[Term]) -> Result<I
         | Opcode::Compare(_)
         | Opcode::TestArity
         | Opcode::IsTaggedTuple => read_test(alloc, opcode, terms),
-        Opcode::SelectVal
-        | Opcode::SelectTupleArity
-        | Opcode::Bif
-        | Opcode::GcBif => read_choice(alloc, opcode, terms),
+        Opcode::SelectVal | Opcode::SelectTupleArity | Opcode::Bif | Opcode::GcBif => read_choice(
+            alloc, opcode, terms,
+        ),
         Opcode::Return
         | Opcode::Call
         | Opcode::CallOnly
@@ -214,9 +213,7 @@ pub(crate) fn insn_by(alloc: Global, opcode: Opcode, terms: &[Term]) -> Result<I
         | Opcode::BsGetTail
         | Opcode::BsGetPosition
         | Opcode::BsSetPosition => read_context(alloc, opcode, terms),
-        Opcode::BsGetInteger2
-        | Opcode::BsGetBinary2
-        | Opcode::BsSkipBits2
-        | Opcode::BsCreateBin => read_segments(alloc, opcode, terms),
+        Opcode::BsGetInteger2 | Opcode::BsGetBinary2 | Opcode::BsSkipBits2 | Opcode::BsCreateBin =>
+            read_segments(alloc, opcode, terms),
     }
 }
