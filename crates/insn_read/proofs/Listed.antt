@@ -1,7 +1,7 @@
 -- Functions that are listed are found with their arity.
 use Rattle.std.proofs.Common.{◌≡◌, ℕ, refl, sym, ap, ap₂, ◌∙◌, List, [], ◌∷◌, length, Option, Some, None, Bool, true, false, not, ◌&&◌, eqb, if◌then◌else◌}
 use borrow.Author.Tests.{eqb-true, eq-eqb}
-use Rattle.erl_base.specs.Names.{Name, same_name}
+use Rattle.erl_base.specs.Names.{Name}
 use Rattle.erl_term.proofs.Forms.{left_true}
 use Rattle.term_read.specs.Lexemes.{◌>>=◌}
 use Rattle.term_read.proofs.Shorter.{some_same}

@@ -1,20 +1,19 @@
 -- An opcode's instruction, from what its row of operands was read as.
-use Rattle.std.proofs.Common.{◌≡◌, refl, sym, ap, ◌∙◌, subst, List, Option, Some, None}
+use Rattle.std.proofs.Common.{◌≡◌, sym, ap, ◌∙◌, subst, List, Some}
 use Rattle.std.specs.declared.result.Result.{Result}
-use Rattle.std.specs.Prelude.{Ok, Err}
+use Rattle.std.specs.Prelude.{Err}
 use Rattle.erl_term.specs.Term.{Term}
 use Rattle.term_read.specs.Lexemes.{◌>>=◌}
 use Rattle.term_read.specs.Reading.{Gives}
 use Rattle.term_read.specs.declared.unread.Unread.{Unread}
 use Rattle.term_read.specs.declared.unread.Unread.TheVariants.{Syntax, NoMemory}
 use Rattle.beam_table.specs.Code as C
-use Rattle.beam_table.specs.OperandBounds.{agrees}
 use Rattle.beam_table.specs.Opcodes.{opcode_row}
 use Rattle.beam_table.specs.View.{insn_view}
 use Rattle.beam_table.specs.declared.insn.Insn.{Insn}
 use Rattle.beam_table.specs.declared.opcode.Opcode.{Opcode}
 use Rattle.insn_terms.specs.Values.{Values, insn_from}
-use Rattle.insn_terms.specs.Reading.{values_of, insn_by, checked}
+use Rattle.insn_terms.specs.Reading.{values_of, insn_by}
 use Rattle.insn_read.specs.OpcodeReading.{agreeing}
 
 -- operands that make an instruction

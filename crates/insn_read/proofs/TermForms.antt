@@ -1,5 +1,5 @@
 -- Terms of the program by their forms: what each form is read as, and what reads as nothing.
-use Rattle.std.proofs.Common.{◌≡◌, refl, sym, ap, ◌∙◌, subst, List, [], ◌∷◌, map, Some, None, IsTrue, Bool, true, false, not, ◌&&◌}
+use Rattle.std.proofs.Common.{◌≡◌, refl, sym, ap, ◌∙◌, subst, List, [], ◌∷◌, map, Some, None, IsTrue, not}
 use Rattle.erl_term.specs.declared.term.Term.{Term, out-Term}
 use Rattle.erl_term.specs.declared.term.Term.TheVariants as V
 use Rattle.erl_term.specs.declared.term.Term.TheViews.{roll-Term, roll-out-Term}

@@ -14,6 +14,7 @@
 
 mod answers;
 mod forms;
+mod insns;
 mod order;
 mod terms;
 mod values;
@@ -25,6 +26,7 @@ use std::test::Fail;
 enum Kind {
     Terms,
     Forms,
+    Insns,
     Values,
     Answers,
     Order,
@@ -35,6 +37,7 @@ impl Show for Kind {
         match self {
             Kind::Terms => terms::show(rt, row),
             Kind::Forms => forms::show(rt, row),
+            Kind::Insns => insns::show(rt, row),
             Kind::Values => values::show(rt, row),
             Kind::Answers => answers::show(rt, row),
             Kind::Order => order::show(rt, row),
@@ -45,6 +48,7 @@ impl Show for Kind {
 fn main(rt: HostRuntime) -> Result<(), Fail> {
     show_all(&rt, &Kind::Terms, "terms.rows")?;
     show_all(&rt, &Kind::Forms, "forms.rows")?;
+    show_all(&rt, &Kind::Insns, "insns.rows")?;
     show_all(&rt, &Kind::Values, "values.rows")?;
     show_all(&rt, &Kind::Answers, "answers.rows")?;
     show_all(&rt, &Kind::Order, "order.rows")

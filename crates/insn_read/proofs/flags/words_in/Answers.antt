@@ -1,4 +1,4 @@
-use Rattle.std.proofs.Common.{◌≡◌, sym, ap, ap₂, ◌∙◌, subst, ◌∷◌, ◌+◌, drop, map}
+use Rattle.std.proofs.Common.{sym, ap, ap₂, ◌∙◌, subst, ◌∷◌, ◌+◌, drop, map}
 use Rattle.std.proofs.lemmas.List.{drop_more}
 use Rattle.erl_term.specs.View.{view}
 use Rattle.erl_term.specs.Comparing.{AllNormal}

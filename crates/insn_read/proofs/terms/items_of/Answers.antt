@@ -1,5 +1,4 @@
-use Rattle.std.proofs.Common.{◌≡◌, sym, ap, ◌∙◌, subst, map, Some}
-use Rattle.erl_term.specs.declared.term.Term.TheVariants as V
+use Rattle.std.proofs.Common.{sym, ap, ◌∙◌, subst, map, Some}
 use Rattle.erl_term.specs.View.{view}
 use Rattle.erl_term.specs.Comparing.{AllNormal}
 use Rattle.insn_read.proofs.TermForms.{list_without_end, list_items_read, list_normal}
