@@ -1,0 +1,3 @@
+pub mod FormParts
+pub mod Stages
+pub mod ModuleOfText

@@ -1,0 +1,6 @@
+//! The order of the forms of an assembly text.
+#![tactic(auto)]
+
+mod laws;
+
+pub use laws::text_has_one_module_of_forms;
