@@ -1,5 +1,6 @@
 -- The module that a text has, and where the first fault of any other text is.
 use Rattle.std.specs.Prelude.{◌≡◌, ℕ, zero, suc, List, map, length, take, Bool, true, false, ◌&&◌, ltb, eqb, Option, Some, None, if◌then◌else◌, IsTrue, IsUtf8, chars}
+use Rattle.std.specs.Str.{is_utf8}
 use Rattle.std.specs.Str.Lossy.{utf8_valid_len}
 use Rattle.erl_base.specs.Names.{same_name, same_key, is_key, keys_distinct}
 use Rattle.erl_term.specs.Term.{Term}
@@ -60,19 +61,24 @@ abbrev pub fault_at_end : (total : ℕ) → Option Head → Option ℕ
 fault_at_end total None = Some total
 fault_at_end total (Some h) = if forms_agree h then None else Some total
 
+-- at a form, where no other may stand; else behind it
+abbrev pub fault_by_stage : (here : ℕ) → (Stage → Option ℕ) → Option Stage → Option ℕ
+fault_by_stage here later None = Some here
+fault_by_stage here later (Some u) = later u
+
+-- at what is no form; else at the end, or by the form
+abbrev pub fault_by_form : (here : ℕ) (at_end : Option ℕ) → (Term × List ℕ → Option ℕ)
+    → Option (Option (Term × List ℕ)) → Option ℕ
+fault_by_form here at_end later None = Some here
+fault_by_form here at_end later (Some None) = at_end
+fault_by_form here at_end later (Some (Some f)) = later f
+
 -- how many of a text's characters stand before its first fault, by what is left of it; at most so many forms are read
 abbrev pub fault_behind : (most total : ℕ) → Stage → List ℕ → Option ℕ
 fault_behind zero total s cs = Some total
-fault_behind (suc n) total s cs = elim (next_form cs) [
-  | None ↦ Some (form_start total cs)
-  | Some o ↦ elim o [
-    | None ↦ fault_at_end total (ended s)
-    | Some f ↦ elim (stage_behind s f.0) [
-      | None ↦ Some (form_start total cs)
-      | Some u ↦ fault_behind n total u f.1
-    ]
-  ]
-]
+fault_behind (suc n) total s cs =
+    fault_by_form (form_start total cs) (fault_at_end total (ended s))
+    (λ f. fault_by_stage (form_start total cs) (λ u. fault_behind n total u f.1) (stage_behind s f.0)) (next_form cs)
 
 -- the same, of a text of characters
 unfoldable pub fault_in : List ℕ → Option ℕ
@@ -82,5 +88,4 @@ fault_in cs = fault_behind (suc (length cs)) (length cs) at_start cs
 -- fault just behind its longest front that is
 unfoldable pub fault_at : List ℕ → Option ℕ
 fault_at bytes =
-    if eqb (utf8_valid_len bytes) (length bytes) then fault_in (chars bytes)
-    else Some (length (chars (take (utf8_valid_len bytes) bytes)))
+    if is_utf8 bytes then fault_in (chars bytes) else Some (length (chars (take (utf8_valid_len bytes) bytes)))

@@ -1,6 +1,8 @@
-ghost use Rattle.std.specs.Prelude.{◌≡◌, List, ℕ};
+ghost use Rattle.std.specs.Prelude.{◌≡◌, List, ℕ, None, IsTrue};
 ghost use Rattle.beam_table.specs.Code.{AsmModule};
-ghost use Rattle.asm_forms.specs.ModuleOfText.{TextOf};
+ghost use Rattle.beam_table.specs.ModuleForms.{forms};
+ghost use Rattle.beam_table.specs.ValidModule.{Valid};
+ghost use Rattle.asm_forms.specs.ModuleOfText.{FormsOf, TextOf, fault_at};
 
 use form_read::text_has_one_row_of_forms;
 
@@ -10,3 +12,9 @@ pub fn text_has_one_module_of_forms()
 {
     text_has_one_row_of_forms();
 }
+
+/// A text has a fault exactly where it has no module.
+pub fn faults_decide_texts()
+    ensures none { (bytes : List ℕ) → fault_at bytes ≡ None → (a : AsmModule) × TextOf bytes a }
+    ensures read { (bytes : List ℕ) (a : AsmModule) → TextOf bytes a → fault_at bytes ≡ None }
+{}

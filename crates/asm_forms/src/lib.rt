@@ -3,4 +3,4 @@
 
 mod laws;
 
-pub use laws::text_has_one_module_of_forms;
+pub use laws::{faults_decide_texts, text_has_one_module_of_forms};

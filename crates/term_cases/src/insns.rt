@@ -1,11 +1,13 @@
 // A row is the text of a term, and what is shown is the instruction that it stands for: its opcode, and behind it the
 // labels, numbers, registers, names and terms in it, one by one.
 ghost use Rattle.std.specs.Prelude.{◌≡◌};
+ghost use Rattle.erl_term.specs.WellFormed.{IsNormal};
 ghost use Rattle.beam_table.specs.Families.{family};
 ghost use Rattle.beam_table.specs.declared.family.Family.TheVariants as F;
 
 use beam_table::{Family, Insn};
 use case_rows::bytes_of;
+use erl_term::Term;
 use insn_read::read_insn;
 use std::io;
 use std::test::Fail;
@@ -15,11 +17,24 @@ pub fn show(rt: &HostRuntime, row: &str) -> Result<(), Fail> {
     let alloc = rt.alloc();
     let bytes = bytes_of(alloc, row)?;
     let term = read_term(alloc, bytes.as_slice())?;
-    match read_insn(alloc, &term)? {
-        None => println!(rt; "    no instruction")?,
-        Some(insn) => show_insn(rt, &insn)?,
+    show_read(rt, &term)
+}
+
+// No `?` here, which would write the type of all instructions into the proof several times.
+fn show_read(rt: &HostRuntime, term: &Term) -> Result<(), Fail>
+    requires { IsNormal term.now }
+{
+    match read_insn(rt.alloc(), term) {
+        Ok(read) => show_found(rt, &read),
+        Err(refused) => Err(Fail::from(refused)),
     }
-    Ok(())
+}
+
+fn show_found(rt: &HostRuntime, read: &Option<Insn>) -> Result<(), Fail> {
+    match read {
+        None => Ok(println!(rt; "    no instruction")?),
+        Some(insn) => Ok(show_insn(rt, insn)?),
+    }
 }
 
 fn show_insn(rt: &HostRuntime, insn: &Insn) -> Result<(), io::Error> {
