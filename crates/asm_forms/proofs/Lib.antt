@@ -1,1 +1,4 @@
+mod Examples
 mod Faults
+mod PrintedModules
+mod PrintedTexts

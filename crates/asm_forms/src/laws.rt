@@ -5,6 +5,7 @@ ghost use Rattle.beam_table.specs.ValidModule.{Valid};
 ghost use Rattle.asm_forms.specs.ModuleOfText.{FormsOf, TextOf, fault_at};
 
 use form_read::text_has_one_row_of_forms;
+use insn_terms::printed_instructions_are_read;
 
 /// A text has at most one module.
 pub fn text_has_one_module_of_forms()
@@ -18,3 +19,10 @@ pub fn faults_decide_texts()
     ensures none { (bytes : List ℕ) → fault_at bytes ≡ None → (a : AsmModule) × TextOf bytes a }
     ensures read { (bytes : List ℕ) (a : AsmModule) → TextOf bytes a → fault_at bytes ≡ None }
 {}
+
+/// The forms that are printed of a valid module are, in their order, those of this module.
+pub fn printed_forms_have_their_module()
+    ensures { (a : AsmModule) → Valid a → FormsOf (forms a) a }
+{
+    printed_instructions_are_read();
+}

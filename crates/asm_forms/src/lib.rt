@@ -3,4 +3,6 @@
 
 mod laws;
 
-pub use laws::{faults_decide_texts, text_has_one_module_of_forms};
+pub use laws::{
+    faults_decide_texts, printed_forms_have_their_module, text_has_one_module_of_forms,
+};
