@@ -145,18 +145,21 @@ text_told bytes u e =
       module_of r.head,
       record {
         utf8 = u;
-        forms = r.forms;
-        spelled = r.spelled;
-        read = record { head = r.head; ordered = r.ordered; agree = r.agree; whole = refl };
+        characters = record {
+          forms = r.forms;
+          spelled = r.spelled;
+          read = record { head = r.head; ordered = r.ordered; agree = r.agree; whole = refl };
+        };
       },
     )
 
 text_tested : (bytes : List ℕ) (a : AsmModule) → TextOf bytes a → fault_in (chars bytes) ≡ None
 unfolding fault_in
 text_tested bytes a x =
-    let k = few_forms (length (chars bytes)) (chars bytes) x.forms x.spelled in
-    fault_free (suc (length (chars bytes))) (length (chars bytes)) at_start (chars bytes) x.forms x.read.head
-    x.spelled x.read.ordered x.read.agree (omega (arith, k))
+    let c = x.characters in
+    let k = few_forms (length (chars bytes)) (chars bytes) c.forms c.spelled in
+    fault_free (suc (length (chars bytes))) (length (chars bytes)) at_start (chars bytes) c.forms c.read.head c.spelled
+    c.read.ordered c.read.agree (omega (arith, k))
 
 pub faultless : (bytes : List ℕ) → fault_at bytes ≡ None → (a : AsmModule) × TextOf bytes a
 unfolding fault_at

@@ -1,3 +1,4 @@
 pub mod FormParts
 pub mod Stages
 pub mod ModuleOfText
+pub mod Lines

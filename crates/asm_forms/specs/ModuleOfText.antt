@@ -33,12 +33,16 @@ pub record FormsOf (ts : List Term) (a : AsmModule) : Type 0 where
   pub agree : FormsAgree head
   pub whole : module_of head ≡ a
 
--- a text that has a module: UTF-8 of forms that are the module's
+-- characters that have a module: those of its forms
+pub record CharactersOf (cs : List ℕ) (a : AsmModule) : Type 0 where
+  pub forms : List TextForm
+  pub spelled : IsFormText cs forms
+  pub read : FormsOf (map (λ f. f.term) forms) a
+
+-- a text that has a module
 pub record TextOf (bytes : List ℕ) (a : AsmModule) : Type 0 where
   pub utf8 : IsUtf8 bytes
-  pub forms : List TextForm
-  pub spelled : IsFormText (chars bytes) forms
-  pub read : FormsOf (map (λ f. f.term) forms) a
+  pub characters : CharactersOf (chars bytes) a
 
 -- The first fault.
 
