@@ -1,10 +1,10 @@
 -- Small texts, form by form, computed.
-use Rattle.std.proofs.Common.{◌≡◌, ℕ, pos, refl, List, [], ◌∷◌, ◌++◌, Bool, true, false, Option, Some, None, codes}
+use Rattle.std.proofs.Common.{◌≡◌, ℕ, refl, List, [], ◌∷◌, ◌++◌, false, Option, Some, None, codes}
 use Rattle.erl_base.specs.Names.{Name}
 use Rattle.erl_base.specs.declared.ids.FunKey.{FunKey}
 use Rattle.erl_term.specs.Term as T
 use Rattle.erl_term.specs.Term.{Term}
-use Rattle.erl_term.specs.Terms.{terms, tagged, list_of}
+use Rattle.erl_term.specs.Terms.{terms, tagged}
 use Rattle.term_read.specs.Lexemes.{◌>>=◌}
 use Rattle.beam_table.specs.Code as C
 use Rattle.beam_table.specs.Code.{reg, x_reg, y_reg, Insn}
@@ -12,7 +12,7 @@ use Rattle.beam_table.specs.InstructionText.{number_term, form}
 use Rattle.beam_table.specs.OperandBounds.{operand_ok}
 use Rattle.beam_table.specs.ModuleForms.{module_form, exports_form, attributes_form, func_info_form}
 use Rattle.insn_terms.specs.Reading.{insn_named}
-use Rattle.asm_forms.specs.Stages.{FunForms, Head, Stage, at_start, behind_info, stage_behind_all, ended}
+use Rattle.asm_forms.specs.Stages.{FunForms, Head, at_start, stage_behind_all, whole_head}
 use Rattle.asm_forms.specs.ModuleOfText.{forms_agree}
 
 abbrev m : Name
@@ -50,7 +50,7 @@ abbrev front : ℕ → List Term
 front n = module_form m ∷ exports_form (f ∷ []) ∷ attributes_form [] ∷ labels n ∷ []
 
 abbrev read : List Term → Option Head
-read ts = stage_behind_all at_start ts >>= ended
+read ts = stage_behind_all at_start ts >>= whole_head
 
 -- the head of a module with one function
 abbrev head : ℕ → FunForms → Head

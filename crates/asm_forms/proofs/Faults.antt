@@ -1,20 +1,20 @@
 -- The function that finds the first fault of a text finds none exactly where the text has a module.
-use Rattle.std.proofs.Common.{◌≡◌, ℕ, zero, suc, ◌+◌, ◌<◌, ◌≤◌, refl, sym, ap, ◌∙◌, subst, List, [], ◌∷◌, map, length, take, Bool, true, false, ◌&&◌, codes, Option, Some, None, if◌then◌else◌, IsTrue, IsUtf8, chars, arith}
+use Rattle.std.proofs.Common.{◌≡◌, ℕ, zero, suc, ◌<◌, ◌≤◌, refl, ap, ◌∙◌, List, [], ◌∷◌, map, length, take, Bool, true, false, codes, Option, Some, None, if◌then◌else◌, IsUtf8, chars, arith}
 use Rattle.std.proofs.lemmas.Str.{IsUtf8-from_is_utf8, is_utf8-from_IsUtf8}
 use Rattle.std.specs.Str.{is_utf8}
 use Rattle.std.specs.Str.Lossy.{utf8_valid_len}
 use Rattle.erl_term.specs.Term.{Term}
 use Rattle.erl_term.proofs.Forms.{left_true, right_true, both_true}
-use Rattle.term_read.specs.Lexemes.{◌>>=◌, behind_blanks}
+use Rattle.term_read.specs.Lexemes.{◌>>=◌}
 use Rattle.term_read.specs.TermGrammar.{most_nesting}
 use Rattle.term_read.proofs.Consuming.{terms_shorten}
 use Rattle.term_read.proofs.Shorter.{mark_shorter}
 use Rattle.form_read.specs.Forms.{IsForm, TextForm, AreForms, no_forms, some_forms, form_start, next_form}
 use Rattle.form_read.proofs.FormsRead.{end_sound, end_complete, form_sound, form_complete}
 use Rattle.beam_table.specs.Code.{AsmModule}
-use Rattle.beam_table.specs.ValidModule.{every, fun_ok, attribute_ok, Valid}
-use Rattle.asm_forms.specs.Stages.{Head, Stage, at_start, stage_behind, stage_behind_all, ended}
-use Rattle.asm_forms.specs.ModuleOfText.{module_of, func_info_agrees, FormsAgree, FormsOf, TextOf, is_valid, forms_agree, fault_at_end, fault_by_stage, fault_by_form, fault_behind, fault_in, fault_at}
+use Rattle.beam_table.specs.ValidModule.{every, attribute_ok, Valid}
+use Rattle.asm_forms.specs.Stages.{Head, Stage, at_start, stage_behind, stage_behind_all, whole_head}
+use Rattle.asm_forms.specs.ModuleOfText.{module_of_head, FormsAgree, TextOf, is_valid, forms_agree, fault_at_end, fault_by_stage, fault_by_form, fault_behind, fault_in, fault_at}
 
 -- Tests and facts.
 
@@ -37,15 +37,15 @@ valid_tested a v =
 
 agree_told : (h : Head) → forms_agree h ≡ true → FormsAgree h
 agree_told h e =
-    let front = left_true _ (is_valid (module_of h)) e in
+    let front = left_true _ (is_valid (module_of_head h)) e in
     record {
       infos = left_true _ _ front;
       below = right_true _ _ front;
-      valid = valid_told (module_of h) (right_true _ (is_valid (module_of h)) e);
+      valid = valid_told (module_of_head h) (right_true _ (is_valid (module_of_head h)) e);
     }
 
 agree_tested : (h : Head) → FormsAgree h → forms_agree h ≡ true
-agree_tested h f = both_true _ _ (both_true _ _ f.infos f.below) (valid_tested (module_of h) f.valid)
+agree_tested h f = both_true _ _ (both_true _ _ f.infos f.below) (valid_tested (module_of_head h) f.valid)
 
 -- Forms that are left of a text, from a stage on.
 
@@ -53,7 +53,7 @@ pub record Rest (total : ℕ) (s : Stage) (cs : List ℕ) : Type 0 where
   pub forms : List TextForm
   pub spelled : AreForms total cs forms
   pub head : Head
-  pub ordered : (stage_behind_all s (map (λ f. f.term) forms) >>= ended) ≡ Some head
+  pub ordered : (stage_behind_all s (map (λ f. f.term) forms) >>= whole_head) ≡ Some head
   pub agree : FormsAgree head
 
 end_told : (total : ℕ) (o : Option Head) → fault_at_end total o ≡ None → (h : Head) × (o ≡ Some h) × FormsAgree h
@@ -82,17 +82,17 @@ no_fault (suc n) total s cs e = by (next_form cs) refl e (λ u ds h. no_fault n 
           forms = record { start = form_start total cs; term = t } ∷ r.forms;
           spelled = some_forms cs ds t r.forms f r.spelled;
           head = r.head;
-          ordered = ap (λ o. (o >>= λ v. stage_behind_all v (map (λ g. g.term) r.forms)) >>= ended) w ∙ r.ordered;
+          ordered = ap (λ o. (o >>= λ v. stage_behind_all v (map (λ g. g.term) r.forms)) >>= whole_head) w ∙ r.ordered;
           agree = r.agree;
         }
 
     by : (o : Option (Option (Term × List ℕ))) → next_form cs ≡ o
-        → fault_by_form (form_start total cs) (fault_at_end total (ended s))
+        → fault_by_form (form_start total cs) (fault_at_end total (whole_head s))
         (λ f. fault_by_stage (form_start total cs) (λ u. fault_behind n total u f.1) (stage_behind s f.0)) o ≡ None
         → ((u : Stage) (es : List ℕ) → fault_behind n total u es ≡ None → Rest total u es) → Rest total s cs
     by None w h k = absurd cc
     by (Some None) w h k =
-        let x = end_told total (ended s) h in
+        let x = end_told total (whole_head s) h in
         record {
           forms = [];
           spelled = no_forms cs (end_sound cs w);
@@ -115,22 +115,22 @@ few_forms total _ _ (some_forms cs ds t fs f r) =
     let a = few_forms total ds fs r in let b = form_shorter cs ds t f in omega (arith, a, b)
 
 pub fault_free : (n total : ℕ) (s : Stage) (cs : List ℕ) (fs : List TextForm) (h : Head) → AreForms total cs fs
-    → (stage_behind_all s (map (λ f. f.term) fs) >>= ended) ≡ Some h → FormsAgree h → length fs < n
+    → (stage_behind_all s (map (λ f. f.term) fs) >>= whole_head) ≡ Some h → FormsAgree h → length fs < n
     → fault_behind n total s cs ≡ None
 fault_free zero total s cs fs h r e g k = absurd (omega (arith, k))
 fault_free (suc n) total s _ _ h (no_forms cs b) e g k =
-    ap (fault_by_form (form_start total cs) (fault_at_end total (ended s))
+    ap (fault_by_form (form_start total cs) (fault_at_end total (whole_head s))
     (λ f. fault_by_stage (form_start total cs) (λ u. fault_behind n total u f.1) (stage_behind s f.0)))
     (end_complete cs b)
-    ∙ end_tested total (ended s) h e g
+    ∙ end_tested total (whole_head s) h e g
 fault_free (suc n) total s _ _ h (some_forms cs ds t fs f r) e g k =
-    ap (fault_by_form (form_start total cs) (fault_at_end total (ended s))
+    ap (fault_by_form (form_start total cs) (fault_at_end total (whole_head s))
     (λ f. fault_by_stage (form_start total cs) (λ u. fault_behind n total u f.1) (stage_behind s f.0)))
     (form_complete cs ds t f)
     ∙ by (stage_behind s t) e (λ u d. fault_free n total u ds fs h r d g (omega (arith, k)))
   where
-    by : (o : Option Stage) → ((o >>= λ u. stage_behind_all u (map (λ f. f.term) fs)) >>= ended) ≡ Some h
-        → ((u : Stage) → (stage_behind_all u (map (λ f. f.term) fs) >>= ended) ≡ Some h
+    by : (o : Option Stage) → ((o >>= λ u. stage_behind_all u (map (λ f. f.term) fs)) >>= whole_head) ≡ Some h
+        → ((u : Stage) → (stage_behind_all u (map (λ f. f.term) fs) >>= whole_head) ≡ Some h
         → fault_behind n total u ds ≡ None)
         → fault_by_stage (form_start total cs) (λ u. fault_behind n total u ds) o ≡ None
     by None d later = absurd cc
@@ -142,7 +142,7 @@ text_told : (bytes : List ℕ) → IsUtf8 bytes → fault_in (chars bytes) ≡ N
 unfolding fault_in
 text_told bytes u e =
     let r = no_fault (suc (length (chars bytes))) (length (chars bytes)) at_start (chars bytes) e in (
-      module_of r.head,
+      module_of_head r.head,
       record {
         utf8 = u;
         characters = record {

@@ -1,8 +1,7 @@
 -- Forms on lines of their own are the forms of a text.
-use Rattle.std.proofs.Common.{◌≡◌, ℕ, ◌≤◌, refl, sym, ap, ap₂, ◌∙◌, subst, List, [], ◌∷◌, ◌++◌, map, length, append_assoc, Bool, true, false, ◌&&◌, leb, IsTrue, codes, arith}
+use Rattle.std.proofs.Common.{◌≡◌, ℕ, ◌≤◌, refl, sym, ap, ◌∙◌, subst, List, [], ◌∷◌, ◌++◌, map, length, append_assoc, true, ◌&&◌, leb, codes}
 use Rattle.std.specs.List.{list_all}
 use Rattle.std.proofs.lemmas.Bool.{leb-true}
-use Rattle.std.proofs.lemmas.List.{append-nil}
 use Rattle.erl_term.specs.Term.{Term}
 use Rattle.erl_term.specs.Depth.{depth}
 use Rattle.erl_term.specs.Ranges.{fits}
@@ -42,13 +41,15 @@ lines_read total before [] b g = record {
 }
 lines_read total before (l ∷ ls) b g =
     let first = left_true (is_line l) (every is_line ls) g in
-    let front = left_true (list_all is_space l.indent && leb (depth l.form) most_nesting && fits l.form) (maps_rise l.form) first in
+    let front = left_true (list_all is_space l.indent && leb (depth l.form) most_nesting && fits l.form)
+    (maps_rise l.form) first in
     let nest = left_true (list_all is_space l.indent && leb (depth l.form) most_nesting) (fits l.form) front in
     let indent = before ++ l.indent in
     let blank = spaces_both before l.indent b
     (left_true (list_all is_space l.indent) (leb (depth l.form) most_nesting) nest) in
     let deep : depth l.form ≤ most_nesting =
-    leb-true (depth l.form) most_nesting (right_true (list_all is_space l.indent) (leb (depth l.form) most_nesting) nest) in
+    leb-true (depth l.form) most_nesting
+    (right_true (list_all is_space l.indent) (leb (depth l.form) most_nesting) nest) in
     let rest = 10 ∷ lines ls in
     let f : IsForm (indent ++ term_on l.form (codes "." ++ rest)) l.form rest =
     printed_is_form indent l.form rest blank deep
@@ -59,7 +60,8 @@ lines_read total before (l ∷ ls) b g =
     let whole : indent ++ term_on l.form (codes "." ++ rest) ≡ before ++ lines (l ∷ ls) =
     append_assoc before l.indent (term_on l.form (codes "." ++ rest)) in
     subst (λ cs. Spelled total cs (map (λ k. k.form) (l ∷ ls))) whole (record {
-      forms = record { start = form_start total (indent ++ term_on l.form (codes "." ++ rest)); term = l.form } ∷ r.forms;
+      forms =
+          record { start = form_start total (indent ++ term_on l.form (codes "." ++ rest)); term = l.form } ∷ r.forms;
       spelled = some_forms (indent ++ term_on l.form (codes "." ++ rest)) rest l.form r.forms f r.spelled;
       terms = ap (λ ts. l.form ∷ ts) r.terms;
     })

@@ -1,27 +1,25 @@
 -- The forms that are printed of a valid module are the forms of that module.
-use Rattle.std.proofs.Common.{◌≡◌, ℕ, ◌+◌, ◌<◌, ◌≤◌, max, refl, sym, ap, ap₂, ◌∙◌, subst, List, [], ◌∷◌, ◌++◌, map, flat_map, append_assoc, Bool, true, false, ◌&&◌, ◌||◌, is_some, eqb, leb, ltb, Option, Some, None, if◌then◌else◌, IsTrue, codes, arith}
+use Rattle.std.proofs.Common.{◌≡◌, ℕ, refl, sym, ap, ◌∙◌, List, [], ◌∷◌, ◌++◌, map, flat_map, append_assoc, Bool, true, false, ◌&&◌, eqb, leb, Option, Some, None, if◌then◌else◌, IsTrue, codes}
 use Rattle.std.specs.Option.{option_map}
 use Rattle.std.proofs.lemmas.List.{append-nil}
-use borrow.Author.Tests.{eqb-true, eq-eqb}
-use Rattle.erl_base.specs.Names.{Name, same_name, same_key, is_key, keys_distinct}
+use borrow.Author.Tests.{eq-eqb}
+use Rattle.erl_base.specs.Names.{Name, same_name, keys_distinct}
 use Rattle.erl_base.specs.declared.ids.FunKey.{FunKey}
 use Rattle.erl_term.specs.Term as T
 use Rattle.erl_term.specs.Term.{Term}
 use Rattle.erl_term.specs.Terms.{terms, listed, list_of}
-use Rattle.erl_term.proofs.Forms.{left_true, right_true, both_true}
+use Rattle.erl_term.proofs.Forms.{left_true, right_true}
 use Rattle.term_read.specs.Lexemes.{◌>>=◌}
 use Rattle.beam_table.specs.Code as C
 use Rattle.beam_table.specs.Code.{Insn, AsmFun, AsmModule}
 use Rattle.beam_table.specs.InstructionText.{number_term, form_with, form, operand_terms}
-use Rattle.beam_table.specs.Operands as P
 use Rattle.beam_table.specs.Operands.{operands}
 use Rattle.beam_table.specs.OperandBounds.{most_arity, label_ok, operand_ok, insn_ok}
-use Rattle.beam_table.specs.ModuleForms.{key_term, attribute_term, greatest, module_form, exports_form, attributes_form, labels_form, function_form, func_info_form, function_forms, forms}
-use Rattle.beam_table.specs.ValidModule.{every, all_labels, fun_ok, Valid}
-use Rattle.insn_terms.specs.Reading.{checked, items_of, next, at_end, atom_of, arity_value, bare_label_value, singles, pair_of, behind, insn_of}
-use Rattle.asm_forms.specs.FormParts.{name_of_module, key_of, exports_of, attributes_of, limit_of, function_in, function_of, func_info_of, label_only, label_form_of, is_dropped}
-use Rattle.asm_forms.specs.Stages.{FunForms, Head, Stage, at_start, behind_labels, behind_function, behind_info, behind_func_info, in_code, with_function, with_insn, begun, code_or_function, stage_behind, stage_behind_all, ended}
-use Rattle.asm_forms.specs.ModuleOfText.{module_of, func_info_agrees, FormsAgree, FormsOf}
+use Rattle.beam_table.specs.ModuleForms.{key_term, attribute_term, exports_form, attributes_form, function_form, func_info_form, function_forms}
+use Rattle.beam_table.specs.ValidModule.{every}
+use Rattle.insn_terms.specs.Reading.{checked, items_of, next, at_end, atom_of, arity_value, bare_label_value, singles, pair_of, insn_of}
+use Rattle.asm_forms.specs.FormParts.{key_term_of, exports_form_of, attributes_form_of, function_in, function_form_of, func_info_form_of, label_only, label_form_of, is_dropped}
+use Rattle.asm_forms.specs.Stages.{FunForms, Head, behind_labels, behind_function, behind_info, behind_func_info, in_code, with_function, with_insn, begun, code_or_function, stage_behind, stage_behind_all, whole_head}
 
 -- Terms that are made and taken apart again.
 
@@ -44,24 +42,24 @@ next_there : {A : Type 0} (f : Term → Option A) (t : Term) (ts : List Term) (a
     → next f (t ∷ ts) ≡ Some (a, ts)
 next_there {A} f t ts a e = let made : Option A → Option (A × List Term) = λ o. o >>= λ b. Some (b, ts) in ap made e
 
-key_there : (f : FunKey) → leb f.arity most_arity ≡ true → key_of (key_term f) ≡ Some f
+key_there : (f : FunKey) → leb f.arity most_arity ≡ true → key_term_of (key_term f) ≡ Some f
 key_there f h =
     ap (λ (o : Option (ℕ × List Term)). o >>= λ n. at_end n.1
     >>= λ e. Some (record { name = f.name; arity = n.0 }))
     (next_there arity_value (number_term f.arity) [] f.arity (arity_there f.arity h))
 
 keys_there : (fs : List FunKey) → every (λ f. leb f.arity most_arity) fs ≡ true
-    → singles key_of (map key_term fs) ≡ Some fs
+    → singles key_term_of (map key_term fs) ≡ Some fs
 keys_there [] h = refl
 keys_there (f ∷ fs) h =
-    ap (λ o. o >>= λ g. singles key_of (map key_term fs) >>= λ gs. Some (g ∷ gs))
+    ap (λ o. o >>= λ g. singles key_term_of (map key_term fs) >>= λ gs. Some (g ∷ gs))
     (key_there f (left_true _ (every (λ g. leb g.arity most_arity) fs) h))
     ∙ ap (λ o. o >>= λ gs. Some (f ∷ gs)) (keys_there fs (right_true (leb f.arity most_arity) _ h))
 
 pub exports_there : (fs : List FunKey) → every (λ f. leb f.arity most_arity) fs ≡ true → keys_distinct fs ≡ true
-    → exports_of (exports_form fs) ≡ Some fs
+    → exports_form_of (exports_form fs) ≡ Some fs
 exports_there fs h k =
-    ap (λ o. o >>= singles key_of >>= checked keys_distinct) (items_there (map key_term fs))
+    ap (λ o. o >>= singles key_term_of >>= checked keys_distinct) (items_there (map key_term fs))
     ∙ ap (λ o. o >>= checked keys_distinct) (keys_there fs h)
     ∙ ap (λ b. if b then Some fs else None) k
 
@@ -69,16 +67,17 @@ pairs_there : (ps : List (Name × Term)) → singles pair_of (map attribute_term
 pairs_there [] = refl
 pairs_there (p ∷ ps) = ap (λ o. o >>= λ qs. Some (p ∷ qs)) (pairs_there ps)
 
-pub attributes_there : (ps : List (Name × Term)) → attributes_of (attributes_form ps) ≡ Some ps
+pub attributes_there : (ps : List (Name × Term)) → attributes_form_of (attributes_form ps) ≡ Some ps
 attributes_there ps =
     ap (λ o. o >>= singles pair_of) (items_there (map attribute_term ps)) ∙ pairs_there ps
 
 function_there : (f : AsmFun) → leb f.key.arity most_arity ≡ true → label_ok f.entry ≡ true
-    → function_of (function_form f) ≡ Some (f.key, f.entry)
+    → function_form_of (function_form f) ≡ Some (f.key, f.entry)
 function_there f h k =
     ap (λ (o : Option (ℕ × List Term)). o >>= λ n. next bare_label_value n.1 >>= λ l. at_end l.1
     >>= λ e. made n.0 l.0)
-    (next_there arity_value (number_term f.key.arity) (number_term f.entry ∷ []) f.key.arity (arity_there f.key.arity h))
+    (next_there arity_value (number_term f.key.arity) (number_term f.entry ∷ []) f.key.arity
+    (arity_there f.key.arity h))
     ∙ ap (λ (o : Option (ℕ × List Term)). o >>= λ l. at_end l.1 >>= λ e. made f.key.arity l.0)
     (next_there bare_label_value (number_term f.entry) [] f.entry (label_there f.entry k))
   where
@@ -86,7 +85,7 @@ function_there f h k =
     made n l = Some (record { name = f.key.name; arity = n }, l)
 
 func_info_there : (m : Name) (f : FunKey) → leb f.arity most_arity ≡ true
-    → func_info_of (func_info_form m f) ≡ Some (m, f)
+    → func_info_form_of (func_info_form m f) ≡ Some (m, f)
 func_info_there m f h =
     ap (λ (o : Option (ℕ × List Term)). o >>= λ n. at_end n.1 >>= λ e. made n.0)
     (next_there arity_value (number_term f.arity) [] f.arity (arity_there f.arity h))
@@ -137,12 +136,12 @@ not_function_in a ts h = by_name (next atom_of ts)
     by_name (Some f) = by_arity f.0 (next arity_value f.1)
 
 not_function_form : (a : Name) (ts : List Term) → same_name (codes "function") a ≡ false
-    → function_of (form_with a ts) ≡ None
+    → function_form_of (form_with a ts) ≡ None
 not_function_form a [] h = refl
 not_function_form a (t ∷ ts) h =
     ap (λ us. function_in (T.atom a ∷ t ∷ us)) (listed-terms ts) ∙ not_function_in a (t ∷ ts) h
 
-no_function : (i : Insn) → function_of (form i) ≡ None
+no_function : (i : Insn) → function_form_of (form i) ≡ None
 no_function (C.label l) = not_function_in (codes "label") (number_term l ∷ []) refl
 no_function (C.move s d) = not_function_form (codes "move") (operand_terms (operands (C.move s d)).1) refl
 no_function i = not_function_form (operands i).0 (operand_terms (operands i).1) (no_function_name i)
@@ -185,7 +184,7 @@ code_read r h f (i ∷ is) ts g =
   where
     insn_step : (i : Insn) → insn_ok i ≡ true → stage_behind (in_code h f) (form i) ≡ Some (in_code h (with_insn f i))
     insn_step i k =
-        ap (λ b. if b then Some (in_code h f) else code_or_function (function_of (form i)) h f (form i)) (no_drop i)
+        ap (λ b. if b then Some (in_code h f) else code_or_function (function_form_of (form i)) h f (form i)) (no_drop i)
         ∙ ap (λ o. code_or_function o h f (form i)) (no_function i)
         ∙ ap (option_map (λ i. in_code h (with_insn f i))) (r.read i k)
 
@@ -217,7 +216,8 @@ body_read : InsnsRead → (h : Head) (m : Name) (f : AsmFun) (ts : List Term) �
     (form (C.label f.info) ∷ func_info_form m f.key ∷ form (C.label f.entry) ∷ (map form f.code ++ ts))
     ≡ stage_behind_all (in_code h (read_fun m f)) ts
 body_read r h m f ts g =
-    let labels = right_true (leb f.key.arity most_arity) (label_ok f.info && (label_ok f.entry && every insn_ok f.code)) g in
+    let labels =
+    right_true (leb f.key.arity most_arity) (label_ok f.info && (label_ok f.entry && every insn_ok f.code)) g in
     let rest = right_true (label_ok f.info) (label_ok f.entry && every insn_ok f.code) labels in
     head_read r h m f (map form f.code ++ ts) (left_true (leb f.key.arity most_arity) _ g)
     (left_true (label_ok f.info) _ labels) (left_true (label_ok f.entry) _ rest)
@@ -232,29 +232,31 @@ entry_good f g =
     (right_true (label_ok f.info) _ (right_true (leb f.key.arity most_arity) _ g))
 
 funs_read : InsnsRead → (h : Head) (m : Name) (f : FunForms) (fs : List AsmFun) → every fun_good fs ≡ true
-    → (stage_behind_all (in_code h f) (flat_map (function_forms m) fs) >>= ended)
+    → (stage_behind_all (in_code h f) (flat_map (function_forms m) fs) >>= whole_head)
     ≡ Some (record h { funs = h.funs ++ f ∷ map (read_fun m) fs })
 funs_read r h m f [] g = refl
 funs_read r h m f (x ∷ fs) g =
     let good = left_true (fun_good x) (every fun_good fs) g in
     let rest = flat_map (function_forms m) fs in
     ap (λ o. (code_or_function o h f (function_form x) >>= λ u.
-    stage_behind_all u (form (C.label x.info) ∷ func_info_form m x.key ∷ form (C.label x.entry) ∷ (map form x.code ++ rest)))
-    >>= ended) (function_there x (arity_good x good) (entry_good x good))
-    ∙ ap (λ o. o >>= ended) (body_read r (with_function h f) m x rest good)
+    stage_behind_all u
+    (form (C.label x.info) ∷ func_info_form m x.key ∷ form (C.label x.entry) ∷ (map form x.code ++ rest)))
+    >>= whole_head) (function_there x (arity_good x good) (entry_good x good))
+    ∙ ap (λ o. o >>= whole_head) (body_read r (with_function h f) m x rest good)
     ∙ funs_read r (with_function h f) m (read_fun m x) fs (right_true (fun_good x) _ g)
     ∙ ap (λ gs. Some (record h { funs = gs })) (append_assoc h.funs (f ∷ []) (map (read_fun m) (x ∷ fs)))
 
 pub all_funs_read : InsnsRead → (h : Head) (m : Name) (fs : List AsmFun) → h.funs ≡ [] → every fun_good fs ≡ true
-    → (stage_behind_all (behind_labels h) (flat_map (function_forms m) fs) >>= ended)
+    → (stage_behind_all (behind_labels h) (flat_map (function_forms m) fs) >>= whole_head)
     ≡ Some (record h { funs = map (read_fun m) fs })
 all_funs_read r h m [] e g = ap (λ gs. Some (record h { funs = gs })) e
 all_funs_read r h m (x ∷ fs) e g =
     let good = left_true (fun_good x) (every fun_good fs) g in
     let rest = flat_map (function_forms m) fs in
     ap (λ o. (option_map (λ p. behind_function h p.0 p.1) o >>= λ u.
-    stage_behind_all u (form (C.label x.info) ∷ func_info_form m x.key ∷ form (C.label x.entry) ∷ (map form x.code ++ rest)))
-    >>= ended) (function_there x (arity_good x good) (entry_good x good))
-    ∙ ap (λ o. o >>= ended) (body_read r h m x rest good)
+    stage_behind_all u
+    (form (C.label x.info) ∷ func_info_form m x.key ∷ form (C.label x.entry) ∷ (map form x.code ++ rest)))
+    >>= whole_head) (function_there x (arity_good x good) (entry_good x good))
+    ∙ ap (λ o. o >>= whole_head) (body_read r h m x rest good)
     ∙ funs_read r h m (read_fun m x) fs (right_true (fun_good x) _ g)
     ∙ ap (λ gs. Some (record h { funs = gs ++ map (read_fun m) (x ∷ fs) })) e

@@ -1,20 +1,18 @@
 -- A valid module is the one that its forms have.
-use Rattle.std.proofs.Common.{◌≡◌, ℕ, ◌+◌, ◌<◌, ◌≤◌, max, refl, sym, ap, ap₂, ◌∙◌, subst, List, [], ◌∷◌, ◌++◌, map, flat_map, Bool, true, false, ◌&&◌, ◌||◌, eqb, leb, ltb, Option, Some, None, IsTrue, arith}
+use Rattle.std.proofs.Common.{◌≡◌, ℕ, ◌+◌, ◌<◌, refl, sym, ap, ◌∙◌, subst, List, [], ◌∷◌, ◌++◌, map, flat_map, Bool, true, false, ◌&&◌, ◌||◌, eqb, leb, ltb, arith}
 use Rattle.std.specs.Option.{option_map}
 use Rattle.std.proofs.lemmas.Bool.{lt-ltb}
 use borrow.Author.Tests.{eqb-true, eq-eqb}
 use Rattle.erl_base.specs.Names.{Name, same_name, same_key, is_key, keys_distinct}
 use Rattle.erl_base.specs.declared.ids.FunKey.{FunKey}
-use Rattle.erl_term.specs.Term.{Term}
 use Rattle.erl_term.proofs.Forms.{left_true, right_true, both_true}
 use Rattle.term_read.specs.Lexemes.{◌>>=◌}
-use Rattle.beam_table.specs.Code as C
 use Rattle.beam_table.specs.Code.{Insn, AsmFun, AsmModule}
 use Rattle.beam_table.specs.OperandBounds.{most_arity, label_ok, insn_ok}
 use Rattle.beam_table.specs.ModuleForms.{greatest, attributes_form, labels_form, function_forms, forms}
 use Rattle.beam_table.specs.ValidModule.{every, labels_in, all_labels, entries_of, names_own, names_entries, labels_of, fun_ok, Valid}
-use Rattle.asm_forms.specs.Stages.{FunForms, Head, behind_exports, behind_attributes, stage_behind_all, ended}
-use Rattle.asm_forms.specs.ModuleOfText.{module_of, func_info_agrees, FormsAgree, FormsOf}
+use Rattle.asm_forms.specs.Stages.{FunForms, Head, behind_exports, behind_attributes, stage_behind_all, whole_head}
+use Rattle.asm_forms.specs.ModuleOfText.{module_of_head, func_info_agrees, FormsOf}
 use Rattle.asm_forms.proofs.PrintedModules.{InsnsRead, read_fun, fun_good, exports_there, attributes_there, all_funs_read}
 
 same_itself : (a : Name) → same_name a a ≡ true
@@ -110,14 +108,15 @@ head_of a = record {
   funs = map (read_fun a.name) a.funs;
 }
 
-whole_of : (a : AsmModule) → module_of (head_of a) ≡ a
+whole_of : (a : AsmModule) → module_of_head (head_of a) ≡ a
 unfolding head_of
 whole_of a = ap (λ fs. record a { funs = fs }) (funs_back a.name a.funs)
 
 pub printed_forms : InsnsRead → (a : AsmModule) → Valid a → FormsOf (forms a) a
 unfolding head_of
 printed_forms r a v =
-    let good = all_good (entries_of a.funs) a.funs (left_true (every label_ok (all_labels a.funs)) _ v.labels) v.functions in
+    let good =
+    all_good (entries_of a.funs) a.funs (left_true (every label_ok (all_labels a.funs)) _ v.labels) v.functions in
     let start : Head = record {
       name = a.name;
       exports = a.exports;
@@ -131,14 +130,15 @@ printed_forms r a v =
     record {
       head = head_of a;
       ordered = ap (λ o. (option_map (behind_exports a.name) o >>= λ u.
-          stage_behind_all u (attributes_form a.attributes ∷ labels_form a.funs ∷ rest)) >>= ended)
+          stage_behind_all u (attributes_form a.attributes ∷ labels_form a.funs ∷ rest)) >>= whole_head)
           (exports_there a.exports short distinct)
           ∙ ap (λ o. (option_map (behind_attributes a.name a.exports) o >>= λ u.
-          stage_behind_all u (labels_form a.funs ∷ rest)) >>= ended) (attributes_there a.attributes)
+          stage_behind_all u (labels_form a.funs ∷ rest)) >>= whole_head) (attributes_there a.attributes)
           ∙ all_funs_read r start a.name a.funs refl good;
       agree = record {
         infos = infos_agree (head_of a) a.funs;
-        below = ap (λ fs. every (λ l. ltb l (greatest (all_labels a.funs) + 1)) (all_labels fs)) (funs_back a.name a.funs)
+        below =
+            ap (λ fs. every (λ l. ltb l (greatest (all_labels a.funs) + 1)) (all_labels fs)) (funs_back a.name a.funs)
             ∙ all_below (all_labels a.funs) (greatest (all_labels a.funs) + 1) (omega arith);
         valid = subst Valid (sym (whole_of a)) v;
       };

@@ -1,5 +1,5 @@
 -- The forms of an assembly text that are no instruction, read from their terms.
-use Rattle.std.specs.Prelude.{ℕ, List, [], ◌∷◌, Bool, ◌||◌, is_some, Option, Some, None, if◌then◌else◌, codes}
+use Rattle.std.specs.Prelude.{ℕ, List, Bool, ◌||◌, is_some, Option, Some, None, if◌then◌else◌, codes}
 use Rattle.erl_base.specs.Names.{Name, same_name, keys_distinct}
 use Rattle.erl_base.specs.declared.ids.FunKey.{FunKey}
 use Rattle.erl_term.specs.Term.{Term}
@@ -9,8 +9,8 @@ use Rattle.beam_table.specs.Code.{Insn}
 use Rattle.insn_terms.specs.Reading.{checked, number_of, atom_of, items_of, elements_of, at_end, next, pair_of, behind, singles, bare_label_value, arity_value, atom_value, insn_of}
 
 -- {module,M}
-abbrev pub name_of_module : Term → Option Name
-name_of_module t = behind (codes "module") t >>= atom_of
+abbrev pub module_form_of : Term → Option Name
+module_form_of t = behind (codes "module") t >>= atom_of
 
 -- {F,A}
 abbrev pub key_in : List Term → Option FunKey
@@ -19,20 +19,20 @@ key_in ts =
     >>= λ e. Some (record { name = f.0; arity = n.0 })
 
 -- the same, in a tuple
-abbrev pub key_of : Term → Option FunKey
-key_of t = elements_of t >>= key_in
+abbrev pub key_term_of : Term → Option FunKey
+key_term_of t = elements_of t >>= key_in
 
 -- {exports,[{F,A},..]}, each function once
-abbrev pub exports_of : Term → Option (List FunKey)
-exports_of t = behind (codes "exports") t >>= items_of >>= singles key_of >>= checked keys_distinct
+abbrev pub exports_form_of : Term → Option (List FunKey)
+exports_form_of t = behind (codes "exports") t >>= items_of >>= singles key_term_of >>= checked keys_distinct
 
 -- {attributes,[{Key,Value},..]}
-abbrev pub attributes_of : Term → Option (List (Name × Term))
-attributes_of t = behind (codes "attributes") t >>= items_of >>= singles pair_of
+abbrev pub attributes_form_of : Term → Option (List (Name × Term))
+attributes_form_of t = behind (codes "attributes") t >>= items_of >>= singles pair_of
 
 -- {labels,N}
-abbrev pub limit_of : Term → Option ℕ
-limit_of t = behind (codes "labels") t >>= number_of
+abbrev pub labels_form_of : Term → Option ℕ
+labels_form_of t = behind (codes "labels") t >>= number_of
 
 -- what stands in {function,F,A,Entry}: the function, and its entry label
 abbrev pub function_in : List Term → Option (FunKey × ℕ)
@@ -43,8 +43,8 @@ function_in ts =
     Some (record { name = f.0; arity = n.0 }, l.0) else None
 
 -- {function,F,A,Entry}
-abbrev pub function_of : Term → Option (FunKey × ℕ)
-function_of t = elements_of t >>= function_in
+abbrev pub function_form_of : Term → Option (FunKey × ℕ)
+function_form_of t = elements_of t >>= function_in
 
 -- what stands in {func_info,{atom,M},{atom,F},A}: the module, and the function
 abbrev pub func_info_in : List Term → Option (Name × FunKey)
@@ -55,8 +55,8 @@ func_info_in ts =
     Some (m.0, record { name = f.0; arity = n.0 }) else None
 
 -- {func_info,{atom,M},{atom,F},A}
-abbrev pub func_info_of : Term → Option (Name × FunKey)
-func_info_of t = elements_of t >>= func_info_in
+abbrev pub func_info_form_of : Term → Option (Name × FunKey)
+func_info_form_of t = elements_of t >>= func_info_in
 
 -- the label that an instruction is
 abbrev pub label_only : Insn → Option ℕ

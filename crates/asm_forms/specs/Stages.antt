@@ -7,7 +7,7 @@ use Rattle.erl_term.specs.Term.{Term}
 use Rattle.term_read.specs.Lexemes.{◌>>=◌}
 use Rattle.beam_table.specs.Code.{Insn, AsmFun}
 use Rattle.insn_terms.specs.Reading.{insn_of}
-use Rattle.asm_forms.specs.FormParts.{name_of_module, exports_of, attributes_of, limit_of, function_of, func_info_of, label_form_of, is_dropped}
+use Rattle.asm_forms.specs.FormParts.{module_form_of, exports_form_of, attributes_form_of, labels_form_of, function_form_of, func_info_form_of, label_form_of, is_dropped}
 
 -- a function, and what its func_info says: the module and the function
 pub record FunForms : Type 0 where
@@ -58,18 +58,19 @@ code_or_function None h f t = option_map (λ i. in_code h (with_insn f i)) (insn
 
 -- the stage behind the next form; there is none where another form must stand
 abbrev pub next_stage : Stage → Term → Option Stage
-next_stage at_start t = option_map behind_module (name_of_module t)
-next_stage (behind_module m) t = option_map (behind_exports m) (exports_of t)
-next_stage (behind_exports m es) t = option_map (behind_attributes m es) (attributes_of t)
+next_stage at_start t = option_map behind_module (module_form_of t)
+next_stage (behind_module m) t = option_map (behind_exports m) (exports_form_of t)
+next_stage (behind_exports m es) t = option_map (behind_attributes m es) (attributes_form_of t)
 next_stage (behind_attributes m es ps) t =
-    option_map (λ n. behind_labels (record { name = m; exports = es; attributes = ps; limit = n; funs = [] })) (limit_of t)
-next_stage (behind_labels h) t = option_map (λ p. behind_function h p.0 p.1) (function_of t)
+    option_map (λ n. behind_labels (record { name = m; exports = es; attributes = ps; limit = n; funs = [] }))
+    (labels_form_of t)
+next_stage (behind_labels h) t = option_map (λ p. behind_function h p.0 p.1) (function_form_of t)
 next_stage (behind_function h k l) t = option_map (behind_info h k l) (label_form_of t)
 next_stage (behind_info h k entry info) t =
-    option_map (λ p. behind_func_info h (begun k entry info p)) (func_info_of t)
+    option_map (λ p. behind_func_info h (begun k entry info p)) (func_info_form_of t)
 next_stage (behind_func_info h f) t =
     label_form_of t >>= λ l. if eqb l f.fun.entry then Some (in_code h f) else None
-next_stage (in_code h f) t = code_or_function (function_of t) h f t
+next_stage (in_code h f) t = code_or_function (function_form_of t) h f t
 
 -- behind {labels,N}, forms that say nothing are dropped
 abbrev pub or_dropped : Stage → Term → Option Stage
@@ -89,7 +90,7 @@ stage_behind_all s [] = Some s
 stage_behind_all s (t ∷ ts) = stage_behind s t >>= λ u. stage_behind_all u ts
 
 -- what is known where no form is missing
-abbrev pub ended : Stage → Option Head
-ended (behind_labels h) = Some h
-ended (in_code h f) = Some (with_function h f)
-ended _ = None
+abbrev pub whole_head : Stage → Option Head
+whole_head (behind_labels h) = Some h
+whole_head (in_code h f) = Some (with_function h f)
+whole_head _ = None

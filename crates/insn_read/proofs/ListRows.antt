@@ -154,5 +154,6 @@ back_normal (t ∷ ts) us n = back_normal ts us (others_normal t (ts ++ us) n)
 -- what is left behind the first
 pub behind_first : (n : ℕ) (ts : List Value) → AllNormal ts → AllNormal (take n (drop 1 ts))
 behind_first n ts h =
-    let d : AllNormal (drop 1 ts) = back_normal (take 1 ts) (drop 1 ts) (subst AllNormal (sym (take-append-drop 1 ts)) h) in
+    let d : AllNormal (drop 1 ts) =
+    back_normal (take 1 ts) (drop 1 ts) (subst AllNormal (sym (take-append-drop 1 ts)) h) in
     front_normal (take n (drop 1 ts)) (drop n (drop 1 ts)) (subst AllNormal (sym (take-append-drop n (drop 1 ts))) d)
