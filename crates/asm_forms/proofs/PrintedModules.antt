@@ -87,11 +87,17 @@ function_there f h k =
 func_info_there : (m : Name) (f : FunKey) → leb f.arity most_arity ≡ true
     → func_info_form_of (func_info_form m f) ≡ Some (m, f)
 func_info_there m f h =
-    ap (λ (o : Option (ℕ × List Term)). o >>= λ n. at_end n.1 >>= λ e. made n.0)
+    ap (λ (o : Option (ℕ × List Term)). (((o >>= λ n. at_end n.1 >>= λ e. Some n.0) >>= named) >>= homed) >>= made)
     (next_there arity_value (number_term f.arity) [] f.arity (arity_there f.arity h))
   where
-    made : ℕ → Option (Name × FunKey)
-    made n = Some (m, record { name = f.name; arity = n })
+    named : ℕ → Option (Name × ℕ)
+    named n = Some (f.name, n)
+
+    homed : Name × ℕ → Option (Name × (Name × ℕ))
+    homed v = Some (m, v)
+
+    made : Name × (Name × ℕ) → Option (Name × FunKey)
+    made v = Some (v.0, record { name = v.1.0; arity = v.1.1 })
 
 -- Instructions are no other forms.
 

@@ -6,7 +6,7 @@ use Rattle.erl_term.specs.Term.{Term}
 use Rattle.term_read.specs.Lexemes.{◌>>=◌}
 use Rattle.beam_table.specs.Code as C
 use Rattle.beam_table.specs.Code.{Insn}
-use Rattle.insn_terms.specs.Reading.{checked, number_of, atom_of, items_of, elements_of, at_end, next, pair_of, behind, singles, bare_label_value, arity_value, atom_value, insn_of}
+use Rattle.insn_terms.specs.Reading.{checked, number_of, atom_of, items_of, elements_of, at_end, next, and_then, alone, pair_of, behind, singles, bare_label_value, arity_value, atom_value, insn_of}
 
 -- {module,M}
 abbrev pub module_form_of : Term → Option Name
@@ -49,10 +49,9 @@ function_form_of t = elements_of t >>= function_in
 -- what stands in {func_info,{atom,M},{atom,F},A}: the module, and the function
 abbrev pub func_info_in : List Term → Option (Name × FunKey)
 func_info_in ts =
-    next atom_of ts >>= λ w. next atom_value w.1 >>= λ m. next atom_value m.1 >>= λ f. next arity_value f.1
-    >>= λ n. at_end n.1
-    >>= λ e. if same_name (codes "func_info") w.0 then
-    Some (m.0, record { name = f.0; arity = n.0 }) else None
+    next atom_of ts >>= λ w. and_then atom_value (and_then atom_value (alone arity_value)) w.1
+    >>= λ v. if same_name (codes "func_info") w.0 then
+    Some (v.0, record { name = v.1.0; arity = v.1.1 }) else None
 
 -- {func_info,{atom,M},{atom,F},A}
 abbrev pub func_info_form_of : Term → Option (Name × FunKey)

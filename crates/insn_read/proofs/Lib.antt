@@ -1,3 +1,4 @@
+mod Distinct
 mod ListRows
 mod Listed
 mod OpcodeArms

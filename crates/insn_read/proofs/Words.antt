@@ -42,7 +42,7 @@ pub word_told : (r : Bool) (a b : List ℕ) → IsUtf8 a → IsUtf8 b → r ≡ 
 word_told r a b u v e k =
     told r a b u v e ∙ ap (λ w. same_name w (chars a)) (chars-IsAscii b (below_all b k))
 
-eqb_flipped : (m n : ℕ) → eqb m n ≡ eqb n m
+pub eqb_flipped : (m n : ℕ) → eqb m n ≡ eqb n m
 eqb_flipped m n = both (eqb m n) (eqb n m)
     (λ e. eq-eqb n m (sym (eqb-true m n e)))
     (λ e. eq-eqb m n (sym (eqb-true n m e)))

@@ -16,6 +16,7 @@ mod control;
 mod data;
 mod events;
 mod flags;
+mod forms;
 mod lists;
 mod names;
 mod numbers;
@@ -28,4 +29,8 @@ mod segments;
 mod sources;
 mod terms;
 
+pub use forms::{
+    attributes_form_of, exports_form_of, func_info_form_of, function_form_of, is_dropped,
+    labels_form_of, module_form_of,
+};
 pub use read::read_insn;

@@ -52,6 +52,7 @@ pub(crate) fn atom_of(term: &Term) -> Result<&Name, Unread>
 pub(crate) fn elements_of(term: &Term) -> Result<&[Term], Unread>
     requires { IsNormal term.now }
     ensures value { Gives (λ ts. map view ts.now) result (Plain.elements_of (view term.now)) }
+    ensures syntax { IfErr result (λ unread. unread ≡ Syntax) }
     ensures normal { IfOk result (λ ts. AllNormal ts.now) }
 {
     let Term::Tuple(items) = term else {
@@ -82,6 +83,7 @@ pub(crate) fn items_of(term: &Term) -> Result<&[Term], Unread>
 pub(crate) fn pair_of(term: &Term) -> Result<(&Name, &Term), Unread>
     requires { IsNormal term.now }
     ensures value { Gives (λ p. (p.0.now, view p.1.now)) result (Plain.pair_of (view term.now)) }
+    ensures syntax { IfErr result (λ unread. unread ≡ Syntax) }
     ensures normal { IfOk result (λ p. IsNormal p.1.now) }
 {
     let [tag, part] = elements_of(term)? else {
