@@ -1,4 +1,5 @@
-//! Instructions of BEAM assembly, read from their terms. It sees no characters and knows no order of forms.
+//! Instructions of BEAM assembly and the other forms of a text, read from their terms. It sees no characters, and knows
+//! no order of forms.
 //!
 //! From the term `{move,{tr,{x,1},{t_atom,any}},{y,0}}` comes `Insn::Move` of X register 1 to slot 0. The term
 //! `{move,{x,1023},{y,0}}` is no instruction, since there is no such register.
@@ -6,7 +7,7 @@
 //! An opcode is found by its name, and has a row of operands. `Operand` says of a type of the code what kind of operand
 //! it is, and a `Row` of types is read one behind the other, so an instruction is one arm: the operands that its opcode
 //! has, and what is made of them. `read_insn` equals `insn_of` of insn_terms, and that function decides which terms
-//! stand for an instruction.
+//! stand for an instruction. What else is read equals its definition in asm_forms.
 //!
 //! The catch: names of opcodes are compared one by one, some sixty at most.
 #![tactic(auto)]
