@@ -2,7 +2,7 @@
 use Rattle.std.proofs.Common.{◌≡◌, refl, ap, ap₂, ◌∙◌, List, [], ◌∷◌, ◌++◌, Bool, true, false, not, ◌&&◌, ◌||◌}
 use Rattle.erl_base.specs.Names.{same_key, is_key, keys_distinct}
 use Rattle.erl_base.specs.declared.ids.FunKey.{FunKey}
-use Rattle.insn_read.proofs.Words.{flipped, eqb_flipped}
+use Rattle.operand_read.proofs.Words.{flipped, eqb_flipped}
 
 -- each is new behind those that are seen
 abbrev pub new_after : List FunKey → List FunKey → Bool

@@ -1,7 +1,4 @@
 mod Distinct
-mod ListRows
 mod Listed
 mod OpcodeArms
 mod OpcodeNames
-mod TermForms
-mod Words

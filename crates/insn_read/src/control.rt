@@ -10,12 +10,12 @@ ghost use Rattle.insn_terms.specs.Reading.{insn_by};
 ghost use Rattle.insn_read.specs.OpcodeFamilies.{opcode_family};
 
 use crate::agreement::{bif, call_ext, call_ext_last, call_ext_only, gc_bif};
-use crate::lists::{Arguments, One, Tagged, Two, WithSize};
-use crate::names::Function;
-use crate::numbers::{Amount, Arity, EntryLabel, LabelOrZero, Live, OwnLabel, YSlot};
-use crate::operand::Row;
 use beam_table::{Insn, Opcode};
 use erl_term::Term;
+use operand_read::{
+    Amount, Arguments, Arity, EntryLabel, Function, LabelOrZero, Live, One, OwnLabel, Row, Tagged,
+    Two, WithSize, YSlot,
+};
 use std::alloc::Global;
 use term_read::Unread;
 

@@ -9,10 +9,9 @@ ghost use Rattle.beam_table.specs.declared.family.Family.TheVariants as F;
 ghost use Rattle.insn_terms.specs.Reading.{insn_by};
 ghost use Rattle.insn_read.specs.OpcodeFamilies.{opcode_family};
 
-use crate::numbers::{Amount, EntryLabel, Live, NoLabel, OwnLabel, Site, Zero};
-use crate::operand::Row;
 use beam_table::{Insn, Opcode};
 use erl_term::Term;
+use operand_read::{Amount, EntryLabel, Live, NoLabel, OwnLabel, Row, Site, Zero};
 use std::alloc::Global;
 use term_read::Unread;
 

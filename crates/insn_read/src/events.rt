@@ -8,11 +8,11 @@ ghost use Rattle.beam_table.specs.declared.family.Family.TheVariants as F;
 ghost use Rattle.insn_terms.specs.Reading.{insn_by};
 ghost use Rattle.insn_read.specs.OpcodeFamilies.{opcode_family};
 
-use crate::lists::{Counted, Field};
-use crate::numbers::{Amount, LabelOrNoFail, LabelOrZero, Live, OwnLabel, XSlot, Zero};
-use crate::operand::Row;
 use beam_table::{Insn, Opcode};
 use erl_term::Term;
+use operand_read::{
+    Amount, Counted, Field, LabelOrNoFail, LabelOrZero, Live, OwnLabel, Row, XSlot, Zero,
+};
 use std::alloc::Global;
 use term_read::Unread;
 

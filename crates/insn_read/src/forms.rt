@@ -8,15 +8,14 @@ ghost use Rattle.term_read.specs.Reading.{Gives};
 ghost use Rattle.insn_terms.specs.Reading.{singles, pair_of};
 ghost use Rattle.asm_forms.specs.FormParts as Plain;
 
-use crate::names::Atom;
-use crate::numbers::{Arity, bare_label};
-use crate::operand::Operand;
-use crate::rows::three;
-use crate::terms::{atom_of, behind, elements_of, is_word, items_of, number_of, pair_of};
 use beam_table::FunKeys;
 use erl_base::{FunKey, LabelId, List, Name, NoMemory};
 use erl_term::{Attribute, Attributes, Term};
 use key_set::KeySet;
+use operand_read::{
+    Arity, Atom, Operand, atom_of, bare_label, behind, elements_of, is_word, items_of, number_of,
+    pair_of, three,
+};
 use std::alloc::Global;
 use term_read::Unread;
 

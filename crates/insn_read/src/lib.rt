@@ -4,10 +4,9 @@
 //! From the term `{move,{tr,{x,1},{t_atom,any}},{y,0}}` comes `Insn::Move` of X register 1 to slot 0. The term
 //! `{move,{x,1023},{y,0}}` is no instruction, since there is no such register.
 //!
-//! An opcode is found by its name, and has a row of operands. `Operand` says of a type of the code what kind of operand
-//! it is, and a `Row` of types is read one behind the other, so an instruction is one arm: the operands that its opcode
-//! has, and what is made of them. `read_insn` equals `insn_of` of insn_terms, and that function decides which terms
-//! stand for an instruction. What else is read equals its definition in asm_forms.
+//! An opcode is found by its name, and its operands are read by the types that an arm of its family names, so an
+//! instruction is one arm. `read_insn` equals `insn_of` of insn_terms, and that function decides which terms stand for an
+//! instruction. What else is read equals its definition in asm_forms.
 //!
 //! The catch: names of opcodes are compared one by one, some sixty at most.
 #![tactic(auto)]
@@ -16,19 +15,9 @@ mod agreement;
 mod control;
 mod data;
 mod events;
-mod flags;
 mod forms;
-mod lists;
-mod names;
-mod numbers;
 mod opcodes;
-mod operand;
 mod read;
-mod registers;
-mod rows;
-mod segments;
-mod sources;
-mod terms;
 
 pub use forms::{
     attributes_form_of, exports_form_of, func_info_form_of, function_form_of, is_dropped,

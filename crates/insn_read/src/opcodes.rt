@@ -9,11 +9,11 @@ ghost use Rattle.insn_terms.specs.Reading as Plain;
 use crate::control::{read_call, read_choice, read_handler, read_test};
 use crate::data::{read_building, read_frames, read_taking_apart};
 use crate::events::{read_context, read_receive, read_segments};
-use crate::terms::is_word;
 use beam_table::{Insn, Opcode};
 use bif_table::{Comparison, TypeTest};
 use erl_base::Name;
 use erl_term::Term;
+use operand_read::is_word;
 use std::alloc::Global;
 use term_read::Unread;
 

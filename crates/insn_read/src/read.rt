@@ -8,12 +8,11 @@ ghost use Rattle.term_read.specs.Reading.{Gives};
 ghost use Rattle.beam_table.specs.View.{insn_view};
 ghost use Rattle.insn_terms.specs.Reading as Plain;
 
-use crate::numbers::bare_label;
 use crate::opcodes::{insn_by, plain_opcode, test_opcode};
-use crate::terms::{atom_of, elements_of, is_word};
 use beam_table::Insn;
 use erl_base::{Name, NoMemory};
 use erl_term::Term;
+use operand_read::{atom_of, bare_label, elements_of, is_word};
 use std::alloc::Global;
 use term_read::Unread;
 

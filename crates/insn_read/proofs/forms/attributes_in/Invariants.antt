@@ -2,7 +2,7 @@ use Rattle.std.proofs.Common.{◌≡◌, map, drop}
 use Rattle.erl_term.specs.Comparing.{AllNormal}
 use Rattle.erl_term.specs.View.{view, attribute_view}
 use Rattle.insn_terms.specs.Reading.{singles, pair_of}
-use Rattle.insn_read.proofs.ListRows.{joined}
+use Rattle.operand_read.proofs.ListRows.{joined}
 use Rattle.insn_read.proofs.forms.attributes_in.Given as goal
 
 abbrev pub invariant-loop-term : goal.invariant-loop-term

@@ -3,7 +3,7 @@ use Rattle.erl_term.specs.Comparing.{AllNormal}
 use Rattle.erl_term.specs.View.{view}
 use Rattle.insn_terms.specs.Reading.{singles}
 use Rattle.asm_forms.specs.FormParts.{key_term_of}
-use Rattle.insn_read.proofs.ListRows.{joined}
+use Rattle.operand_read.proofs.ListRows.{joined}
 use Rattle.insn_read.proofs.forms.keys_in.Given as goal
 
 abbrev pub invariant-loop-term : goal.invariant-loop-term

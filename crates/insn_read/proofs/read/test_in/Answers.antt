@@ -1,4 +1,4 @@
-use Rattle.insn_read.proofs.ListRows.{behind_first}
+use Rattle.operand_read.proofs.ListRows.{behind_first}
 use Rattle.insn_read.proofs.read.test_in.Goals as goal
 
 pub insn_by-requires : goal.insn_by-requires
