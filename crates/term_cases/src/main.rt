@@ -16,6 +16,7 @@ mod answers;
 mod forms;
 mod insns;
 mod order;
+mod parts;
 mod terms;
 mod values;
 
@@ -27,6 +28,7 @@ enum Kind {
     Terms,
     Forms,
     Insns,
+    Parts,
     Values,
     Answers,
     Order,
@@ -38,6 +40,7 @@ impl Show for Kind {
             Kind::Terms => terms::show(rt, row),
             Kind::Forms => forms::show(rt, row),
             Kind::Insns => insns::show(rt, row),
+            Kind::Parts => parts::show(rt, row),
             Kind::Values => values::show(rt, row),
             Kind::Answers => answers::show(rt, row),
             Kind::Order => order::show(rt, row),
@@ -49,6 +52,7 @@ fn main(rt: HostRuntime) -> Result<(), Fail> {
     show_all(&rt, &Kind::Terms, "terms.rows")?;
     show_all(&rt, &Kind::Forms, "forms.rows")?;
     show_all(&rt, &Kind::Insns, "insns.rows")?;
+    show_all(&rt, &Kind::Parts, "parts.rows")?;
     show_all(&rt, &Kind::Values, "values.rows")?;
     show_all(&rt, &Kind::Answers, "answers.rows")?;
     show_all(&rt, &Kind::Order, "order.rows")
