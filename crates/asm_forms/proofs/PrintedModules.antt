@@ -190,7 +190,8 @@ code_read r h f (i ∷ is) ts g =
   where
     insn_step : (i : Insn) → insn_ok i ≡ true → stage_behind (in_code h f) (form i) ≡ Some (in_code h (with_insn f i))
     insn_step i k =
-        ap (λ b. if b then Some (in_code h f) else code_or_function (function_form_of (form i)) h f (form i)) (no_drop i)
+        ap (λ b. if b then Some (in_code h f) else code_or_function (function_form_of (form i)) h f (form i))
+        (no_drop i)
         ∙ ap (λ o. code_or_function o h f (form i)) (no_function i)
         ∙ ap (option_map (λ i. in_code h (with_insn f i))) (r.read i k)
 

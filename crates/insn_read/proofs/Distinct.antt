@@ -23,7 +23,8 @@ key_at_end f g [] = by (same_key f g)
     by : (b : Bool) → (b || false) ≡ b
     by true = refl
     by false = refl
-key_at_end f g (h ∷ seen) = ap (λ b. same_key f h || b) (key_at_end f g seen) ∙ by (same_key f h) (is_key f seen) (same_key f g)
+key_at_end f g (h ∷ seen) =
+    ap (λ b. same_key f h || b) (key_at_end f g seen) ∙ by (same_key f h) (is_key f seen) (same_key f g)
   where
     by : (a b c : Bool) → (a || (b || c)) ≡ ((a || b) || c)
     by true b c = refl
@@ -35,7 +36,8 @@ regrouped false true true k = refl
 regrouped false true false k = refl
 regrouped false false e k = refl
 
-none_at_end : (g : FunKey) (seen fs : List FunKey) → none_of (seen ++ g ∷ []) fs ≡ (none_of seen fs && not (is_key g fs))
+none_at_end : (g : FunKey) (seen fs : List FunKey)
+    → none_of (seen ++ g ∷ []) fs ≡ (none_of seen fs && not (is_key g fs))
 none_at_end g seen [] = refl
 none_at_end g seen (f ∷ fs) =
     ap₂ (λ a b. not a && b) (key_at_end f g seen) (none_at_end g seen fs)

@@ -5,8 +5,8 @@
 //! `{move,{x,1023},{y,0}}` is no instruction, since there is no such register.
 //!
 //! An opcode is found by its name, and its operands are read by the types that an arm of its family names, so an
-//! instruction is one arm. `read_insn` equals `insn_of` of insn_terms, and that function decides which terms stand for an
-//! instruction. What else is read equals its definition in asm_forms.
+//! instruction is one arm. `read_insn` equals `insn_of` of insn_terms, and that function decides which terms stand for
+//! an instruction. What else is read equals its definition in asm_forms.
 //!
 //! The catch: names of opcodes are compared one by one, some sixty at most.
 #![tactic(auto)]

@@ -1,7 +1,7 @@
 //! Operands of instructions, read from their terms, each by its kind. It knows no instructions.
 //!
-//! `{tr,{x,1},{t_atom,any}}` is X register 1 where a register or a source stands, and `{x,1023}` is nothing, since there
-//! is no such register. `{f,0}` is no label, but for the kinds that may have none.
+//! `{tr,{x,1},{t_atom,any}}` is X register 1 where a register or a source stands, and `{x,1023}` is nothing, since
+//! there is no such register. `{f,0}` is no label, but for the kinds that may have none.
 //!
 //! `Operand` says of a type of the code what kind of operand it is, and what value of that kind it stands for. A `Row`
 //! of types is read one behind the other, and its values are those of the kinds in a row. So what is read equals
