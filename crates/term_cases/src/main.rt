@@ -14,7 +14,9 @@
 
 mod answers;
 mod forms;
+mod insns;
 mod order;
+mod parts;
 mod terms;
 mod values;
 
@@ -25,6 +27,8 @@ use std::test::Fail;
 enum Kind {
     Terms,
     Forms,
+    Insns,
+    Parts,
     Values,
     Answers,
     Order,
@@ -35,6 +39,8 @@ impl Show for Kind {
         match self {
             Kind::Terms => terms::show(rt, row),
             Kind::Forms => forms::show(rt, row),
+            Kind::Insns => insns::show(rt, row),
+            Kind::Parts => parts::show(rt, row),
             Kind::Values => values::show(rt, row),
             Kind::Answers => answers::show(rt, row),
             Kind::Order => order::show(rt, row),
@@ -45,6 +51,8 @@ impl Show for Kind {
 fn main(rt: HostRuntime) -> Result<(), Fail> {
     show_all(&rt, &Kind::Terms, "terms.rows")?;
     show_all(&rt, &Kind::Forms, "forms.rows")?;
+    show_all(&rt, &Kind::Insns, "insns.rows")?;
+    show_all(&rt, &Kind::Parts, "parts.rows")?;
     show_all(&rt, &Kind::Values, "values.rows")?;
     show_all(&rt, &Kind::Answers, "answers.rows")?;
     show_all(&rt, &Kind::Order, "order.rows")

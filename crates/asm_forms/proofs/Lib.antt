@@ -1,0 +1,5 @@
+mod Examples
+mod Faults
+mod PrintedLines
+mod PrintedModules
+mod PrintedTexts

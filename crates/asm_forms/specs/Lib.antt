@@ -1,0 +1,4 @@
+pub mod FormParts
+pub mod Stages
+pub mod ModuleOfText
+pub mod Lines

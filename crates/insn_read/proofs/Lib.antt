@@ -1,0 +1,4 @@
+mod Distinct
+mod Listed
+mod OpcodeArms
+mod OpcodeNames

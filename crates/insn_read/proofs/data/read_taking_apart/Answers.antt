@@ -1,0 +1,34 @@
+use Rattle.std.proofs.Common.{refl}
+use Rattle.beam_table.specs.declared.opcode.Opcode.TheVariants as O
+use Rattle.insn_read.proofs.OpcodeArms.{made, unmade}
+use Rattle.insn_read.proofs.data.read_taking_apart.Goals as goal
+
+pub returns-in-Ok : goal.returns-in-Ok
+returns-in-Ok c = made _ O.GetList _ _ _ c.in-GetList.is c.in-Ok.ensures refl
+
+pub returns-in-Err : goal.returns-in-Err
+returns-in-Err c = unmade _ O.GetList _ _ c.in-GetList.is c.in-Err.ensures
+
+pub returns-in-Ok-read : goal.returns-in-Ok-read
+returns-in-Ok-read c = made _ O.GetHd _ _ _ c.in-GetHd.is c.in-Ok-read.ensures refl
+
+pub returns-in-Err-read : goal.returns-in-Err-read
+returns-in-Err-read c = unmade _ O.GetHd _ _ c.in-GetHd.is c.in-Err-read.ensures
+
+pub returns-in-Ok-read-2 : goal.returns-in-Ok-read-2
+returns-in-Ok-read-2 c = made _ O.GetTl _ _ _ c.in-GetTl.is c.in-Ok-read-2.ensures refl
+
+pub returns-in-Err-read-2 : goal.returns-in-Err-read-2
+returns-in-Err-read-2 c = unmade _ O.GetTl _ _ c.in-GetTl.is c.in-Err-read-2.ensures
+
+pub returns-in-Ok-read-3 : goal.returns-in-Ok-read-3
+returns-in-Ok-read-3 c = made _ O.GetTupleElement _ _ _ c.in-GetTupleElement.is c.in-Ok-read-3.ensures refl
+
+pub returns-in-Err-read-3 : goal.returns-in-Err-read-3
+returns-in-Err-read-3 c = unmade _ O.GetTupleElement _ _ c.in-GetTupleElement.is c.in-Err-read-3.ensures
+
+pub returns-in-Ok-read-4 : goal.returns-in-Ok-read-4
+returns-in-Ok-read-4 c = made _ O.GetMapElements _ _ _ c.in-GetMapElements.is c.in-Ok-read-4.ensures refl
+
+pub returns-in-Err-read-4 : goal.returns-in-Err-read-4
+returns-in-Err-read-4 c = unmade _ O.GetMapElements _ _ c.in-GetMapElements.is c.in-Err-read-4.ensures

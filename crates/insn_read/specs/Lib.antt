@@ -1,0 +1,2 @@
+pub mod OpcodeFamilies
+pub mod OpcodeReading

@@ -1,0 +1,3 @@
+pub mod ListRows
+mod TermForms
+pub mod Words
