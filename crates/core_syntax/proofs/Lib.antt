@@ -11,5 +11,4 @@ mod FunForms
 mod WordForms
 mod TreeForms
 mod Names
-mod Words
 mod Accepting

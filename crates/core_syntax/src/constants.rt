@@ -13,6 +13,7 @@ use crate::kinds::{is_code, is_within};
 use crate::outcome::{MOST_DEPTH, Outcome, deeper};
 use crate::stack::Stack;
 use core_lex::{Symbol, TokenKind};
+use core_names::is_word;
 use erl_base::{Name, NoMemory};
 
 /// The bits of a segment that is a constant are at most so many.
@@ -213,19 +214,11 @@ pub fn takes_unit(size: u32, kind: &TokenKind) -> bool
     }
 }
 
-// Whether a name is a word of ASCII.
-fn is_same(name: &Name, word: &str) -> bool
-    requires ascii { IsTrue (list_all (λ c. nat_lt c 128) word.now) }
-    ensures { result ≡ same_name name.now word.now }
-{
-    name.as_str() == word
-}
-
 pub fn takes_kind(kind: &TokenKind) -> bool
     ensures { result ≡ takes_kind kind.now }
 {
     match kind {
-        TokenKind::Atom(name) => is_same(name, "integer"),
+        TokenKind::Atom(name) => is_word(name.as_str(), "integer"),
         TokenKind::Symbol(symbol) => is_open_paren(*symbol),
         TokenKind::Word(_)
         | TokenKind::Variable(_)
@@ -260,10 +253,10 @@ pub fn takes_flags(kind: &TokenKind) -> bool
 fn is_flag(name: &Name) -> bool
     ensures { result ≡ is_flag (T.atom name.now) }
 {
-    let signed = is_same(name, "signed");
-    let unsigned = is_same(name, "unsigned");
-    let big = is_same(name, "big");
-    let little = is_same(name, "little");
+    let signed = is_word(name.as_str(), "signed");
+    let unsigned = is_word(name.as_str(), "unsigned");
+    let big = is_word(name.as_str(), "big");
+    let little = is_word(name.as_str(), "little");
     signed | unsigned | big | little
 }
 

@@ -1,12 +1,13 @@
-//! Measures calls over a file, for `bin/bench`: `measure tokens FILE` tells how many tokens a text has, `measure term
-//! FILE` how many bytes the printed text of a term has, `measure values FILE` how its two copies compare, how many
-//! steps along it found an item, and two sums of its integers, `measure lists FILE` how many items the lists in a list
-//! have. With `timed` in front it tells what each step took, in microseconds, and what the system says of the process,
-//! which has the most memory that it took (`VmHWM`).
+//! Measures calls over a file, for `bin/bench`: `measure tokens FILE` tells how many tokens a text has, `measure syntax
+//! FILE` whether it is the text of a module, `measure term FILE` how many bytes the printed text of a term has,
+//! `measure values FILE` how its two copies compare, how many steps along it found an item, and two sums of its
+//! integers, `measure lists FILE` how many items the lists in a list have. With `timed` in front it tells what each step
+//! took, in microseconds, and what the system says of the process, which has the most memory that it took (`VmHWM`).
 #![tactic(auto)]
 
 mod clock;
 mod lists;
+mod syntax;
 mod terms;
 mod tokens;
 mod values;
@@ -16,11 +17,12 @@ use std::env;
 use std::test::Fail;
 
 const USAGE: &str =
-    "usage: measure [timed] SUBJECT FILE, of the subjects tokens, term, values, lists";
+    "usage: measure [timed] SUBJECT FILE, of the subjects tokens, syntax, term, values, lists";
 
 fn measured(rt: &HostRuntime, subject: &str, clock: &mut Clock, text: &[u8]) -> Result<(), Fail> {
     match subject {
         "tokens" => Ok(tokens::measure(rt, clock, text)?),
+        "syntax" => Ok(syntax::measure(rt, clock, text)?),
         "term" => Ok(terms::measure(rt, clock, text)?),
         "values" => values::measure(rt, clock, text),
         "lists" => lists::measure(rt, clock, text),
