@@ -30,6 +30,7 @@ abbrev pub base_sound : Option Bool → Bool
 base_sound None = true
 base_sound (Some b) = b
 
+-- a form whose parts are known
 abbrev pub form_sound : Known ExprForm-F → Bool
 form_sound (form.Values es) = all_sound es
 form_sound (form.ExprForm::Var x) = true
@@ -51,6 +52,7 @@ form_sound (form.Catch e) = e
 form_sound (form.Try a xs b ys c) = a && b && c
 form_sound (form.Receive cs t b) = all_sound cs && t && b
 
+-- the same, of patterns
 abbrev pub pattern_form_sound : Known PatternForm-F → Bool
 pattern_form_sound (form.PatternForm::Var x) = true
 pattern_form_sound (form.Alias x p) = p
@@ -60,27 +62,35 @@ pattern_form_sound (form.PatternForm::Tuple ps) = all_sound ps
 pattern_form_sound (form.PatternForm::Map ks) = all_sound ks
 pattern_form_sound (form.PatternForm::Binary ss) = all_sound ss
 
+-- a clause
 abbrev pub clause_sound : Known Clause-F → Bool
 clause_sound c = all_sound c.patterns && c.guard && c.body
 
+-- a definition
 abbrev pub def_sound : Known Def-F → Bool
 def_sound d = d.fun
 
+-- an expression of a known form
 abbrev pub expr_node_sound : Known Expr-F → Bool
 expr_node_sound e = e.form
 
+-- a part of a map pattern
 abbrev pub key_sound : Known KeyPattern-F → Bool
 key_sound k = k.key && k.pattern
 
+-- a part of a map whose parts are known
 abbrev pub part_node_sound : Known MapPart-F → Bool
 part_node_sound p = p.key && p.value
 
+-- a pattern of a known form
 abbrev pub pattern_node_sound : Known Pattern-F → Bool
 pattern_node_sound p = p.form
 
+-- a segment of a pattern whose parts are known
 abbrev pub seg_node_sound : Known SegPattern-F → Bool
 seg_node_sound s = s.value && s.size && term_sound s.unit && term_sound s.flags
 
+-- a segment whose parts are known
 abbrev pub segment_node_sound : Known Segment-F → Bool
 segment_node_sound s = s.value && s.size && term_sound s.unit && term_sound s.flags
 

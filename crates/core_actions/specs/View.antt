@@ -31,6 +31,7 @@ abbrev pub end_sound : Option Expr → Bool
 end_sound None = true
 end_sound (Some e) = expr_sound e
 
+-- the same, of what is read
 abbrev pub read_sound : ReadExpr → Bool
 read_sound (Whole e) = expr_sound e
 read_sound (Items p rows o) = all_sound (map expr_sound (all_items rows)) && end_sound o
@@ -43,10 +44,12 @@ pattern_read_view (P.Characters p cs) = Plain.pattern_characters p cs
 pattern_read_view (P.Items p rows o) =
     Plain.pattern_items p (patterns (map pattern_view (all_items rows))) (option_map pattern_view o)
 
+-- whether the terms of what is behind its items are well formed
 abbrev pub pattern_end_sound : Option Pattern → Bool
 pattern_end_sound None = true
 pattern_end_sound (Some q) = pattern_sound q
 
+-- the same, of the pattern
 abbrev pub pattern_read_sound : ReadPattern → Bool
 pattern_read_sound (P.Whole q) = pattern_sound q
 pattern_read_sound (P.Items p rows o) = all_sound (map pattern_sound (all_items rows)) && pattern_end_sound o
@@ -61,5 +64,6 @@ parts_view s = record {
   flags = read_view s.flags;
 }
 
+-- whether its terms are well formed
 abbrev pub parts_sound : SegmentParts → Bool
 parts_sound s = read_sound s.size && read_sound s.unit && read_sound s.flags

@@ -11,8 +11,8 @@ use Rattle.core_profile.specs.LimitFaults.{limit_faults}
 abbrev pub most_bytes : ℕ
 most_bytes = 16777216
 
--- the bytes are a text of this module within all limits, whose names and degrees are right and which has nothing that is
--- not compiled
+-- the bytes are a text of this module within all limits, whose names and degrees are right and which has nothing that
+-- is not compiled
 pub record LawfulText (bytes : List ℕ) (m : Module) : Type 0 where
   pub small : length bytes ≤ most_bytes
   pub utf8 : IsUtf8 bytes

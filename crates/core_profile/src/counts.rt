@@ -13,7 +13,8 @@ pub enum Counts<'a> {
 impl<'a> Counts<'a> {
     /// That of this function, where there is one.
     pub fn of(self, site: usize) -> Option<u64>
-        ensures some { IfSome result (λ count. (site < length (counted self.entry)) × (get_or (counted self.entry) site 0 ≡ count)) }
+        ensures some { IfSome result (λ count. (site < length (counted self.entry))
+            × (get_or (counted self.entry) site 0 ≡ count)) }
         ensures none { result ≡ None → length (counted self.entry) ≤ site }
     {
         match self {

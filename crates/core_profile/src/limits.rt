@@ -100,7 +100,8 @@ fn definition(def: &Def, counts: Counts, standing: Standing, progress: Progress)
 
 fn definitions(items: &[Def], counts: Counts, progress: Progress) -> Progress
     requires { length items.now ≤ 4294967295 }
-    ensures { result ≡ walk_module (counted counts.entry) (length items.now) 0 (defs (map def_view items.now)) progress }
+    ensures { result
+        ≡ walk_module (counted counts.entry) (length items.now) 0 (defs (map def_view items.now)) progress }
 {
     let all = items.len();
     let mut progress = progress;

@@ -42,6 +42,7 @@ abbrev pub choose : {A : Type 0} → Bool → A → A → A
 choose true x y = x
 choose false x y = y
 
+-- an item at a depth
 abbrev pub at : ℕ → Item → Entry
 at d i = record { item = i; depth = d }
 
@@ -60,6 +61,7 @@ more C.Many = C.Many
 
 -- ---- trees
 
+-- the symbols that may begin a tree of this sort
 abbrev pub takes_symbol : Sort → Symbols.Symbol → Bool
 takes_symbol s S.OpenParen = true
 takes_symbol s S.OpenBracket = takes_list (sort_of s)
@@ -69,6 +71,7 @@ takes_symbol s S.OpenMap = takes_constant (sort_of s)
 takes_symbol s S.OpenBinary = takes_constant (sort_of s)
 takes_symbol s _ = false
 
+-- the words that may begin one
 abbrev pub takes_word : Sort → Words.Word → Bool
 takes_word s W.Fun = takes_fun (sort_of s) || takes_constant (sort_of s)
 takes_word s W.Let = takes_expression (sort_of s)
@@ -102,6 +105,7 @@ abbrev pub symbol_depth : Sort → ℕ → Symbols.Symbol → ℕ
 symbol_depth s d S.OpenParen = suc (open_weight s + d)
 symbol_depth s d _ = suc d
 
+-- how deep the first token of a tree is
 abbrev pub tree_depth : Sort → ℕ → TokenKind → ℕ
 tree_depth s d (K.Variable x) = open_weight s + d
 tree_depth s d (K.Atom a) = leaf_weight s + d
@@ -128,6 +132,7 @@ noted_next O.Pattern d es =
 noted_next O.Key d es = at (suc d) (I.Part (P.Tree O.Key)) ∷ at d I.NotedKey ∷ es
 noted_next s d es = at (suc d) (I.Part (P.Tree (inner s))) ∷ at (suc (open_weight s + d)) I.Noted ∷ es
 
+-- what follows an opening bracket
 abbrev pub bracket_next : Sort → ℕ → Symbols.Symbol → List Entry → List Entry
 bracket_next s d S.OpenParen es = noted_next s d es
 bracket_next s d S.OpenBracket es = at (suc d) (I.ListRest (of_items s)) ∷ es
@@ -139,6 +144,7 @@ bracket_next s d S.OpenMap es = stacked (suc d) (I.Maybe (P.Pairs s) ∷ I.MapEn
 bracket_next s d S.OpenBinary es = stacked (suc d) (I.Maybe (P.Segments s) ∷ I.Symbol S.CloseBinary ∷ []) es
 bracket_next s d _ es = es
 
+-- a whole expression
 abbrev pub an_expression : Item
 an_expression = I.Part (P.Tree O.Expression)
 
@@ -151,6 +157,7 @@ local_rest =
 abbrev pub external_rest : List Item
 external_rest = I.Symbol S.Colon ∷ I.Atom ∷ I.Symbol S.Slash ∷ I.Arity ∷ []
 
+-- what follows `fun`
 abbrev pub fun_next : Sort → ℕ → List Entry → List Entry
 fun_next O.Expression d es = at d I.FunRest ∷ es
 fun_next O.Fun d es = stacked d (I.Symbol S.OpenParen ∷ local_rest) es
@@ -160,6 +167,7 @@ fun_next s d es = stacked d (I.Atom ∷ external_rest) es
 abbrev pub arguments : List Item
 arguments = I.Symbol S.OpenParen ∷ I.Maybe (P.Items O.Expression C.Zero) ∷ I.Symbol S.CloseParen ∷ []
 
+-- what follows another word
 abbrev pub form_next : Sort → ℕ → Words.Word → List Entry → List Entry
 form_next s d W.Fun es = fun_next s d es
 form_next s d W.Let es =
@@ -192,11 +200,13 @@ abbrev pub tree_shape : TokenKind → Shape
 tree_shape (K.Variable x) = Variable
 tree_shape _ = Other
 
+-- a tree of this sort begins
 abbrev pub tree : Sort → ℕ → TokenKind → List Entry → Reaction
 tree s d k es = on_test (takes_tree s k) (tree_depth s d k) (tree_next s d k es) (tree_shape k)
 
 -- ---- parts of constant segments
 
+-- whether a symbol is `(`
 abbrev pub is_open_paren : Symbols.Symbol → Bool
 is_open_paren S.OpenParen = true
 is_open_paren _ = false
@@ -206,6 +216,7 @@ abbrev pub constant_symbol_depth : ℕ → Symbols.Symbol → ℕ
 constant_symbol_depth d S.OpenParen = suc (1 + d)
 constant_symbol_depth d _ = suc d
 
+-- how deep the first token of a constant is
 abbrev pub constant_depth : ℕ → TokenKind → ℕ
 constant_depth d (K.Atom a) = 1 + d
 constant_depth d (K.Number g z) = 1 + d
@@ -218,6 +229,7 @@ abbrev pub kind_symbol_depth : ℕ → Symbols.Symbol → ℕ
 kind_symbol_depth d S.OpenParen = suc (0 + d)
 kind_symbol_depth d _ = suc d
 
+-- how deep that of a type is
 abbrev pub kind_depth : ℕ → TokenKind → ℕ
 kind_depth d (K.Atom a) = 0 + d
 kind_depth d (K.Symbol x) = kind_symbol_depth d x
@@ -238,6 +250,7 @@ takes_size (K.Character c) = is_code c && leb c 256
 takes_size (K.Symbol x) = is_open_paren x
 takes_size _ = false
 
+-- a size tells its number to the unit behind it
 abbrev pub size_shape : TokenKind → Shape
 size_shape (K.Number g (pos n)) = Size n
 size_shape (K.Character c) = Size c
@@ -247,6 +260,7 @@ size_shape _ = Other
 abbrev pub fits_size : (size unit : ℕ) → Bool
 fits_size n u = not (leb n 256) || is_constant_size n u
 
+-- the tokens that may begin the unit behind this size
 abbrev pub takes_unit : (size : ℕ) → TokenKind → Bool
 takes_unit m (K.Number g (pos n)) = is_within_128 (pos n) && fits_size m n
 takes_unit m (K.Character c) = is_code c && fits_size m c
@@ -259,10 +273,12 @@ takes_kind (K.Atom a) = same_name a (codes "integer")
 takes_kind (K.Symbol x) = is_open_paren x
 takes_kind _ = false
 
+-- no character
 abbrev pub is_empty : List ℕ → Bool
 is_empty [] = true
 is_empty (c ∷ cs) = false
 
+-- `(` or `[`
 abbrev pub opens_flags : Symbols.Symbol → Bool
 opens_flags S.OpenParen = true
 opens_flags S.OpenBracket = true
@@ -290,6 +306,7 @@ constant_next p own d _ es = es
 abbrev pub constant : Parts.Part → Bool → (own depth : ℕ) → TokenKind → List Entry → Shape → Reaction
 constant p b own d k es sh = on_test b own (constant_next p own d k es) sh
 
+-- a flag begins
 abbrev pub flag : ℕ → TokenKind → List Entry → Reaction
 flag d k es = constant P.Flag (takes_flag k) (constant_depth d k) d k es Other
 
@@ -312,11 +329,13 @@ strict_segment =
     I.Part P.Value ∷ I.Symbol S.CloseAngle ∷ I.Symbol S.OpenParen ∷ I.Part P.Size ∷ I.UnitNext ∷ I.Symbol S.Comma
     ∷ I.Part P.Kind ∷ I.Symbol S.Comma ∷ I.Part P.Flags ∷ I.Symbol S.CloseParen ∷ []
 
+-- what follows the `#<` of a segment
 abbrev pub segment_items : Sort → List Item
 segment_items O.Expression = loose_segment O.Expression
 segment_items O.Pattern = loose_segment O.Pattern
 segment_items _ = strict_segment
 
+-- a segment begins, or its bracket
 abbrev pub segment : Sort → ℕ → TokenKind → List Entry → Reaction
 segment s d k es =
     choose (is_symbol S.OpenParen k) (taken (suc d) (stacked (suc d) (I.Part (P.Segment s) ∷ I.Noted ∷ []) es) Other)
@@ -332,6 +351,7 @@ head d k es =
     (taken (suc (suc d)) (at (suc d) (I.Part P.Head) ∷ at d I.NotedHead ∷ es) Other)
     (tree O.Pattern (suc d) k (at d I.HeadEnd ∷ es)))
 
+-- a clause begins, or its bracket
 abbrev pub clause : ℕ → TokenKind → List Entry → Reaction
 clause d k es = head d k (at d I.ClauseEnd ∷ es)
 
@@ -342,6 +362,7 @@ module_rest =
     ∷ I.Word W.Attributes ∷ I.Symbol S.OpenBracket ∷ I.Maybe P.Attributes ∷ I.Symbol S.CloseBracket
     ∷ I.Maybe P.Definitions ∷ I.Word W.End ∷ []
 
+-- what follows the word `module`
 abbrev pub module_items : List Item
 module_items = I.Atom ∷ module_rest
 

@@ -24,6 +24,7 @@ use Rattle.core_syntax.specs.Beginnings.{Reaction, refused, taken, on_test, choo
 
 -- ---- what need not stand there
 
+-- passed but where something stands
 abbrev pub unless : Bool → Shape → Option Shape
 unless true sh = None
 unless false sh = Some sh
@@ -55,6 +56,7 @@ passed k _ sh = None
 
 -- ---- what goes on behind what was read
 
+-- this symbol is taken
 abbrev pub on_symbol : Symbols.Symbol → ℕ → TokenKind → List Entry → Reaction
 on_symbol s d k es = on_test (is_symbol s k) d es Other
 
@@ -92,6 +94,7 @@ catches (Counted C.Two) = true
 catches (Counted C.Three) = true
 catches _ = false
 
+-- a unit for the size that was read
 abbrev pub unit_wanted : Shape → Item
 unit_wanted (Size n) = I.Part (P.Unit n)
 unit_wanted _ = I.Part (P.Unit 0)
@@ -107,6 +110,7 @@ abbrev pub list_rest : Sort → ℕ → TokenKind → List Entry → Reaction
 list_rest s d k es =
     choose (opens k) (begin (P.Items s C.Zero) d k (at d (I.ListEnd s) ∷ es)) (on_symbol S.CloseBracket d k es)
 
+-- flags or none behind `[`
 abbrev pub flags_rest : ℕ → TokenKind → List Entry → Reaction
 flags_rest d k es =
     choose (opens k) (begin P.FlagItems d k (at d I.FlagsEnd ∷ es)) (on_symbol S.CloseBracket d k es)

@@ -11,6 +11,7 @@ use Rattle.std.specs.List.{list_all}
 use Rattle.core_chars.specs.Characters.{is_capital, is_name_char}
 use Rattle.core_form.specs.SourceTree.{is_variable_name, is_arity}
 
+-- whether two symbols are one
 abbrev pub same_symbol : Symbols.Symbol → Symbols.Symbol → Bool
 same_symbol S.Arrow S.Arrow = true
 same_symbol S.AnnotationBar S.AnnotationBar = true
@@ -41,6 +42,7 @@ abbrev pub is_symbol : Symbols.Symbol → TokenKind → Bool
 is_symbol x (Symbol y) = same_symbol x y
 is_symbol x _ = false
 
+-- whether two words are one
 abbrev pub same_word : Words.Word → Words.Word → Bool
 same_word W.After W.After = true
 same_word W.Apply W.Apply = true
@@ -67,10 +69,12 @@ abbrev pub is_word : Words.Word → TokenKind → Bool
 is_word x (Word y) = same_word x y
 is_word x _ = false
 
+-- an atom
 abbrev pub is_atom : TokenKind → Bool
 is_atom (Atom a) = true
 is_atom _ = false
 
+-- the end of the text
 abbrev pub is_end : TokenKind → Bool
 is_end End = true
 is_end _ = false
@@ -80,9 +84,11 @@ abbrev pub is_arity_kind : (short : Bool) → TokenKind → Bool
 is_arity_kind b (Number false (pos n)) = b && is_arity n
 is_arity_kind b _ = false
 
+-- a number that may be an arity: unsigned, of at most nine digits
 abbrev pub is_arity_token : Token → Bool
 is_arity_token t = is_arity_kind (leb t.to (t.from + 9)) t.kind
 
+-- the symbols that may begin something
 abbrev pub is_symbol_open : Symbols.Symbol → Bool
 is_symbol_open S.OpenParen = true
 is_symbol_open S.OpenBracket = true
@@ -93,6 +99,7 @@ is_symbol_open S.OpenBinary = true
 is_symbol_open S.OpenSegment = true
 is_symbol_open _ = false
 
+-- the words that may begin something
 abbrev pub is_word_open : Words.Word → Bool
 is_word_open W.After = false
 is_word_open W.Attributes = false

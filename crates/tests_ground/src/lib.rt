@@ -1,7 +1,7 @@
 //! Tests of the crates of the ground: what no clause says and no row of a table can show.
 //!
-//! Each call that takes memory gives its value when there is memory; stores refuse and fail where they should; texts and
-//! their refusals are the same however the bytes are cut.
+//! Each call that takes memory gives its value when there is memory; stores refuse and fail where they should; texts
+//! and their refusals are the same however the bytes are cut.
 #![tactic(auto)]
 
 #[cfg(test)]

@@ -1,4 +1,7 @@
 // Of core_actions: each node is made when there is memory.
+ghost use Rattle.std.specs.Prelude.{IfOk, IsTrue};
+ghost use Rattle.core_actions.specs.View.{parts_sound};
+
 use core_actions::{
     ReadExpr, ReadPattern, SegmentParts, binary_of, closed, closed_pattern, list_before,
     list_before_pattern, map_of_pairs, seg_pattern_of, segment_of, tuple_of, tuple_of_patterns,
@@ -59,7 +62,9 @@ fn is_map(alloc: Global) -> Result<bool, NoMemory> {
 }
 
 // 8 bits
-fn octet(alloc: Global) -> Result<SegmentParts, NoMemory> {
+fn octet(alloc: Global) -> Result<SegmentParts, NoMemory>
+    ensures { IfOk result (λ parts. IsTrue (parts_sound parts)) }
+{
     let kind = Name::from_text(alloc, "integer")?;
     Ok(SegmentParts {
         size: ReadExpr::Integer(HERE, 8),
