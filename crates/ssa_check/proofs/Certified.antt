@@ -1,17 +1,17 @@
 -- A body with a certificate is well formed: by induction over ways, over windows and over paths to uses.
-use Rattle.std.proofs.Common.{◌≡◌, ◌≢◌, ◌≤◌, ◌<◌, ⊎_elim, ℕ, zero, suc, List, [], ◌∷◌, ◌++◌, length, Bool, true, false, ◌&&◌, ◌||◌, eqb, Option, Some, None, Contains, refl, sym, ap, ◌∙◌, subst, arith, IsTrue, IsFalse}
+use Rattle.std.proofs.Common.{◌≡◌, ◌≤◌, ◌<◌, ⊎_elim, ℕ, suc, List, [], ◌∷◌, ◌++◌, Bool, true, false, ◌||◌, eqb, Option, Some, None, Contains, refl, sym, ap, ◌∙◌, subst, arith, IsTrue, IsFalse}
 use Rattle.std.proofs.lemmas.Bool.{eqb-true, eq-eqb}
 use Rattle.erl_base.specs.Lists.{among}
-use Rattle.ssa_form.specs.Ssa.{Op, Set, Last, Body, block_at}
+use Rattle.ssa_form.specs.Ssa.{Set, Body, block_at}
 use Rattle.ssa_form.specs.Storage.{Handler, Mode, tests}
-use Rattle.ssa_form.specs.SetFacts.{dst_vars, all_among, none_among, unsets_registers, is_peek, breaks_cycle}
+use Rattle.ssa_form.specs.SetFacts.{dst_vars, all_among, unsets_registers, is_peek, breaks_cycle}
 use Rattle.ssa_form.specs.Flow.{Point, point, set_at, last_at, phis_at, phi_vars, Effect, Step, passes, leads, succeeds, fails, raises, Way, begins, goes, Reached, Leads, Passing, one, more}
 use Rattle.ssa_form.specs.Liveness.{used_at, LiveFrom, used, by_phi, later, LiveAfter, read, live, Across, over, lands}
 use Rattle.ssa_form.specs.ReceiveWindow as Window
 use Rattle.ssa_form.specs.ReceiveWindow.{ends_at, Look, InWindow, found, on, IsInside, SetIn, message, by_set, KeepsWindow}
 use Rattle.ssa_form.specs.WellFormed.{block_has, any_has, KeepsCycle, tests_nothing, closes_first, SetsOnce, WellFormed}
 use Rattle.ssa_form.proofs.VarLists.{or_true, left_true, and_both, among_append, among_left, among_right}
-use Rattle.ssa_check.specs.Certificate.{Notes, FitsSet, Comes, by_look, goes_on, FitsStep, FitsEdge, FitsPoint, FitsBlock, Certificate, CertifiedBodiesAreWellFormed}
+use Rattle.ssa_check.specs.Certificate.{Notes, FitsSet, Comes, by_look, goes_on, FitsStep, FitsEdge, FitsPoint, Certificate, CertifiedBodiesAreWellFormed}
 
 -- Lists of variables.
 

@@ -9,8 +9,15 @@
 #![tactic(auto)]
 
 ghost use Rattle.ssa_check.specs.Certificate.{CertifiedBodiesAreWellFormed};
+ghost use Rattle.ssa_check.specs.Examples.{Examples};
 
 /// A body with a certificate, whose variables are set once each, is well formed.
 pub fn certified_bodies_are_well_formed()
     ensures { CertifiedBodiesAreWellFormed }
+{}
+
+/// A diamond with a phi has a certificate; bodies with one fault each have none.
+#[tactic(auto, using(crate::proofs::Examples::examples))]
+pub fn faulty_bodies_have_no_certificate()
+    ensures { Examples }
 {}
