@@ -98,7 +98,8 @@ module _ (b : Body) (c : Certificate b) where
   nears _ _ _ (one n m l) h = (lead_fits n m l).nears (no_or _ _ h).0
   nears _ _ _ (more n m k ns l p) h =
       let i : a.rank m < a.rank n = (lead_fits n m l).nears (no_or _ _ h).0 in
-      let j : a.rank k < a.rank m = nears m k ns p (no_or (block_has is_peek (block_at b n)) _ h).1 in omega (arith, i, j)
+      let j : a.rank k < a.rank m = nears m k ns p (no_or (block_has is_peek (block_at b n)) _ h).1 in
+      omega (arith, i, j)
 
   sinks : (n m : ℕ) (ns : List ℕ) → Passing b n m ns → a.level m ≤ a.level n
   sinks _ _ _ (one n m l) = (lead_fits n m l).sinks
@@ -185,7 +186,8 @@ module _ (b : Body) (c : Certificate b) where
 
   counted : (w v : ℕ) → SetIn b w v → IsTrue (among v (a.set_inside w))
   counted w v (message l e) =
-      set_among l.set.dst v (a.set_inside w) e ((set_fits (point w l.at) l.set (tests l.none) l.is_there).message l.looks)
+      set_among l.set.dst v (a.set_inside w) e
+      ((set_fits (point w l.at) l.set (tests l.none) l.is_there).message l.looks)
   counted w v (Window.by_phi n hs i e) = among_all v (phi_vars (phis_at b n)) (a.set_inside w) e
       ((c.local n).counted w (in_window w (point n 0) hs i).here)
   counted w v (by_set p hs x m i e f d) =

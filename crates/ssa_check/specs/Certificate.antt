@@ -34,7 +34,7 @@ pub record FitsSet (b : Body) (a : Notes) (p : Point) (x : Set) (m : Mode) : Typ
       → IsTrue (all_among (dst_vars x.dst) (a.set_inside w))
   pub message : IsTrue (is_peek x.op) → IsTrue (all_among (dst_vars x.dst) (a.set_inside p.block))
 
--- How a step from p comes to stand in the window of block w, at q: by its look, or since it stood there, before the end.
+-- How a step from p comes to stand in the window of block w, at q: by its look, or from there, before the end.
 pub data Comes (b : Body) (a : Notes) (w : ℕ) (p q : Point) : Type 0 where
   by_look : (l : Look b w) → p ≡ point w l.at → q ≡ point l.found 0 → Comes b a w p q
   goes_on : a.inside p ≡ Some w → IsFalse (ends_at (set_at b p)) → Comes b a w p q
@@ -54,8 +54,8 @@ pub record FitsStep (b : Body) (a : Notes) (p q : Point) (is' : List Handler) (e
       → IsTrue (among v (a.set_inside w)) → IsFalse (among v e.sets)
       → IsFalse (among v e.reads) × (IsFalse (among v e.phis) → IsFalse (among v (a.available q)))
 
--- An edge from p leads to a block that is there and whose phis know it. Out of a block without a look the rank falls; the
--- level never rises, and falls out of a block with an operation that no cycle holds. A landing is entered by a raise,
+-- An edge from p leads to a block that is there and whose phis know it. Out of a block without a look the rank falls;
+-- the level never rises, and falls out of a block with an operation that no cycle holds. A landing is entered by a raise,
 -- which closes its handler.
 pub record FitsEdge (b : Body) (a : Notes) (p : Point) (m : ℕ) (is' : List Handler) : Type 0 where
   pub there : block_at b m ≢ None
@@ -87,8 +87,8 @@ pub record FitsBlock (b : Body) (a : Notes) (n : ℕ) : Type 0 where
   pub counted : (w : ℕ) → a.inside (point n 0) ≡ Some w
       → IsTrue (all_among (phi_vars (phis_at b n)) (a.set_inside w))
 
--- A certificate of a body: its blocks fit some notes, which agree with how a body begins, with its looks, and with the X
--- registers, which hold what a window sets.
+-- A certificate of a body: its blocks fit some notes, which agree with how a body begins, with its looks, and with the
+-- X registers, which hold what a window sets.
 pub record Certificate (b : Body) : Type 0 where
   pub notes : Notes
   pub starts : block_at b 0 ≢ None
