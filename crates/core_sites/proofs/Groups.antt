@@ -9,9 +9,9 @@ use Rattle.core_form.specs.Core.{Expr, Defs, no_def, and_def, def, letrec}
 use Rattle.core_form.specs.Scope.{Use, Scope, variable, function, binding, function_of, with_names, body_of, numbers_of}
 use Rattle.core_form.specs.Captures.{sites_in, with_defs, captured, once_below, placed, occurring, occurring_defs}
 use Rattle.core_sites.specs.Things.{use_at, unexpanded, instead, expanded, below}
-use Rattle.core_sites.specs.Gathering.{put_all, named, group_at, gathered, gathered_defs}
-use Rattle.core_sites.proofs.Alike.{Alike, equal, through, other_way, both, expanded_append, below_append, below_more, below_once, once_of_below, once_twice, IsLow, taken_expanded}
-use Rattle.core_sites.proofs.Stands.{Stands, two, Reads, Fits, reads_function, stands, stands_defs}
+use Rattle.core_sites.specs.Gathering.{put_all, named, group_at}
+use Rattle.core_sites.proofs.Alike.{equal, below_append, below_more, below_once, once_of_below, once_twice, IsLow, taken_expanded}
+use Rattle.core_sites.proofs.Stands.{two, Reads, Fits, reads_function, stands, stands_defs}
 use Rattle.core_sites.proofs.Captured.{length_unexpanded, binding_unexpanded, quiet_instead}
 use Rattle.core_sites.proofs.Puts.{put_all_append, put_once, put_alike}
 
@@ -48,7 +48,7 @@ ready_named (and_def (def p f e) ds) w = ready_named ds (ready_function f w)
 pub ready_all : {l : ℕ} {g : Scope} → Ready l g → Ready (length g) g
 ready_all w = record { within = w.within; room = omega arith }
 
-named_longer : (ds : Defs) (g : Scope) → length g ≤ length (named ds g)
+pub named_longer : (ds : Defs) (g : Scope) → length g ≤ length (named ds g)
 named_longer no_def g = omega arith
 named_longer (and_def (def p f e) ds) g = let k = named_longer ds (function f 0 [] ∷ g) in omega (arith, k)
 
@@ -191,32 +191,29 @@ group_once ds g w =
     ∙ once_of_below (length g) (length g) [] used (omega arith)
 
 -- the walk through a group puts what its form uses
-pub letrec_gathered : {l : ℕ} (p : Place) (ds : Defs) (b : Expr) (g : Scope) (us : List Use) → Ready l g
-    → (put : (us : List Use) → gathered_defs ds (named ds g) (length (named ds g)) us
-    ≡ put_all (length (named ds g)) us (occurring_defs ds (unexpanded (named ds g))))
-    → (behind : (us : List Use) → gathered b (named ds g) (length (named ds g)) us
-    ≡ put_all (length (named ds g)) us (occurring b (unexpanded (named ds g))))
-    → gathered (letrec p ds b) g l us ≡ put_all l us (occurring (letrec p ds b) (unexpanded g))
-letrec_gathered {l} p ds b g us w put behind =
+pub letrec_put : {l : ℕ} {vs ws : List Use} (p : Place) (ds : Defs) (b : Expr) (g : Scope) (us : List Use) → Ready l g
+    → vs ≡ put_all (length (named ds g)) [] (occurring_defs ds (unexpanded (named ds g)))
+    → ws ≡ put_all (length (named ds g)) vs (occurring b (unexpanded (named ds g)))
+    → put_all l us (expanded (group_at (length g) (put_all (length g) [] vs)) ws)
+    ≡ put_all l us (occurring (letrec p ds b) (unexpanded g))
+letrec_put {l} {vs} {ws} p ds b g us w put behind =
     let n = length g in
-    let h = named ds g in
     let m = length (named ds g) in
     let xs = occurring_defs ds (unexpanded (named ds g)) in
     let ys = occurring b (unexpanded (named ds g)) in
     let cs = once_below (length g) [] (occurring_defs ds (unexpanded (named ds g))) in
-    let vs = gathered_defs ds (named ds g) (length (named ds g)) [] in
     let zs = once_below (length (named ds g)) [] (xs ++ ys) in
     let own : put_all n [] vs ≡ cs =
-    ap (λ ts. put_all n [] ts) (put [] ∙ put_once m [] xs) ∙ put_once n [] (once_below m [] xs)
+    ap (λ ts. put_all n [] ts) (put ∙ put_once m [] xs) ∙ put_once n [] (once_below m [] xs)
     ∙ once_twice n m [] xs (named_longer ds g) in
-    let inner : gathered b h m vs ≡ zs =
-    behind vs ∙ ap (λ ts. put_all m ts ys) (put []) ∙ sym (put_all_append m [] xs ys) ∙ put_once m [] (xs ++ ys) in
+    let inner : ws ≡ zs =
+    behind ∙ ap (λ ts. put_all m ts ys) put ∙ sym (put_all_append m [] xs ys) ∙ put_once m [] (xs ++ ys) in
     let low = low_stead n m cs (named_longer ds g) (below_once n [] xs) in
     let fit = group_fits ds g cs w in
     let whole = two m (stead n m cs) (stands_defs m (stead n m cs) low ds fit) (stands m (stead n m cs) low b fit) in
     let room = w.room in
     let longer = named_longer ds g in
-    ap (λ ts. put_all l us (expanded (group_at n ts) (gathered b h m vs))) own
+    ap (λ ts. put_all l us (expanded (group_at n ts) ws)) own
     ∙ ap (λ ts. put_all l us (expanded (group_at n cs) ts)) inner
     ∙ ap (λ ts. put_all l us ts) (same_below n m cs [] (xs ++ ys))
     ∙ put_once l us (expanded (stead n m cs) zs)

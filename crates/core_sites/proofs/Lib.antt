@@ -3,6 +3,6 @@ pub mod Stands
 pub mod Captured
 pub mod Puts
 pub mod Groups
-pub mod Gathers
+pub mod Walks
 pub mod Lists
 pub mod Outside

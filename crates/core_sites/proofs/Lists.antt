@@ -1,28 +1,28 @@
 -- The walk through a module lists its sites.
-use Rattle.std.proofs.Common.{◌≡◌, ℕ, zero, suc, ◌+◌, ◌-◌, ◌<◌, ◌≤◌, List, [], ◌∷◌, ◌++◌, length, map, replicate, slice_get, Bool, true, false, eqb, if◌then◌else◌, inl, inr, Option, Some, None, refl, sym, ap, ◌∙◌, subst, append_assoc, append-nil, eq-eqb, ne_eqb, length-append, arith}
+use Rattle.std.proofs.Common.{◌≡◌, ℕ, zero, suc, ◌+◌, ◌-◌, ◌<◌, ◌≤◌, List, [], ◌∷◌, ◌++◌, length, map, replicate, Bool, true, false, if◌then◌else◌, inl, inr, Option, Some, None, refl, sym, ap, ◌∙◌, subst, append_assoc, append-nil, eq-eqb, length-append, arith}
 use Rattle.std.proofs.lemmas.Bool.{cases_lt}
 use Rattle.std.proofs.lemmas.List.{map-append, length-replicate}
 use Rattle.erl_base.specs.Names.{Name, same_name, same_key}
 use Rattle.erl_base.specs.declared.ids.Place.{Place}
 use Rattle.erl_base.specs.declared.ids.FunKey.{FunKey}
-use Rattle.core_form.specs.declared.tree.Binder.{Binder}
 use Rattle.core_form.specs.declared.module.Site.{Site}
-use Rattle.core_sites.specs.declared.listing.Told.{Told}
-use Rattle.core_sites.specs.declared.listing.Told.TheVariants.{Sites, Counts}
+use Rattle.core_sites.specs.declared.told.Told.{Told}
+use Rattle.core_sites.specs.declared.told.Told.TheVariants.{Sites, Counts}
+use Rattle.core_sites.specs.declared.told.Telling.{Telling}
 use Rattle.core_form.specs.Core.{Module, Expr, values, var, fun_name, literal, list, tuple, new_map, map_of, binary, fun, let_in, letrec, case, apply, call, primop, do_then, catch, try, receive, Exprs, no_expr, and_expr, MapParts, no_part, and_part, map_part, Segments, no_segment, and_segment, segment, Defs, no_def, and_def, def, Clauses, no_clause, and_clause, clause}
-use Rattle.core_form.specs.Scope.{Use, Scope, variable, function, binding, function_of, with_names, names_of, params_of, body_of, bound_all}
+use Rattle.core_form.specs.Scope.{Use, Scope, variable, function, binding, function_of, with_names, names_of, body_of, bound_all}
 use Rattle.core_form.specs.Captures.{sites_in, sites_in_all, sites_in_parts, sites_in_defs, sites_in_clauses, with_defs, captured, once_below, placed, occurring, occurring_defs, captures_of, group_captures, in_group}
 use Rattle.core_form.specs.Sites as Plain
 use Rattle.core_form.specs.Sites.{fun_site, named_site, sites, sites_all, sites_parts, sites_segments, sites_defs, sites_clauses, module_scope, def_count, own_sites, inner_sites, module_sites}
 use Rattle.core_sites.specs.Things.{use_at, unexpanded, instead, expanded, captures_at, below, IsNumbered}
-use Rattle.core_sites.specs.Gathering.{put_all, named, gathered, gathered_defs}
-use Rattle.core_sites.specs.Listing.{Held, one_of, held_at, padded, with_group, binders_of, shown, resolved, defs_capture, group_held, listing, own_listing, own_listings, listed, listed_all, listed_parts, listed_segments, listed_inside, right_listed, listed_defs, listed_clauses, all_inside, listed_module}
+use Rattle.core_sites.specs.Gathering.{put_all, named, module_texts, later_texts}
+use Rattle.core_sites.specs.Listing.{Held, held_at, padded, with_group, shown, resolved, next_captures, text_taken, group_held, listing, own_listings, listed, listed_all, listed_parts, listed_segments, listed_inside, right_listed, listed_defs, listed_clauses, all_inside, listed_module}
 use Rattle.core_sites.proofs.Alike.{equal, below_more, below_once, expanded_none, IsLow}
-use Rattle.core_sites.proofs.Stands.{Reads, Fits, stands, stands_defs}
+use Rattle.core_sites.proofs.Stands.{Fits, stands, stands_defs}
 use Rattle.core_sites.proofs.Captured.{at_outer, at_more, binding_unexpanded, length_unexpanded, binding_within, captures_expanded, group_captures_expanded}
 use Rattle.core_sites.proofs.Puts.{put_once}
 use Rattle.core_sites.proofs.Groups.{Ready, ready_named}
-use Rattle.core_sites.proofs.Gathers.{gathers, gathers_defs}
+use Rattle.core_sites.proofs.Walks.{texts, texts_all, texts_parts, texts_segments, texts_defs, texts_clauses, walks_defs}
 
 -- What is held.
 
@@ -196,22 +196,22 @@ resolves {n} {g} {st} us vs w e =
     ∙ ap (λ ts. once_below (length g) [] (expanded (captures_at g) ts)) e
 
 fun_captured : {n g : Scope} {st : Held} (e : Expr) → Tied n st g
-    → resolved st (length n) (gathered e n (length n) []) ≡ captures_of e g
+    → resolved st (length n) (put_all (length n) [] (occurring e (unexpanded n))) ≡ captures_of e g
 fun_captured {n} {g} {st} e w =
-    resolves (gathered e n (length n) []) (occurring e (unexpanded g)) w
-    ((gathers e [] (ready w)).is ∙ put_once (length n) [] (occurring e (unexpanded n))
+    resolves (put_all (length n) [] (occurring e (unexpanded n))) (occurring e (unexpanded g)) w
+    (put_once (length n) [] (occurring e (unexpanded n))
     ∙ ap (λ l. once_below l [] (occurring e (unexpanded n))) w.long
     ∙ sym ((stands 0 (λ i. None) low e (fit w)).alike.first (length g) []
     ∙ ap (λ ts. once_below (length g) [] ts) (expanded_none (occurring e (unexpanded n)))))
     ∙ sym (captures_expanded e g w.numbered)
 
 group_captured : {n g : Scope} {st : Held} (ds : Defs) → Tied n st g
-    → defs_capture ds (named ds n) (length n) st ≡ group_captures ds g
+    → resolved st (length n) (put_all (length n) [] (occurring_defs ds (unexpanded (named ds n)))) ≡ group_captures ds g
 group_captured {n} {g} {st} ds w =
     let inner = tied_group ds 0 [] refl w in
     let used = occurring_defs ds (unexpanded (named ds n)) in
-    resolves (gathered_defs ds (named ds n) (length n) []) (occurring_defs ds (unexpanded (with_defs ds 0 [] g))) w
-    ((gathers_defs ds [] (ready_named ds (ready w))).is ∙ put_once (length n) [] used
+    resolves (put_all (length n) [] used) (occurring_defs ds (unexpanded (with_defs ds 0 [] g))) w
+    (put_once (length n) [] used
     ∙ ap (λ l. once_below l [] used) w.long
     ∙ sym ((stands_defs 0 (λ i. None) low ds (fit inner)).alike.first (length g) []
     ∙ ap (λ ts. once_below (length g) [] ts) (expanded_none used)))
@@ -240,112 +240,147 @@ told_one : (out : Told) (x : Plain.Site) → listing x.place x.key x.params x.ca
 told_one (Sites out) x = refl
 told_one (Counts out) x = refl
 
--- from out to r these sites are listed
-record Lists (out r : Told) (xs : List Plain.Site) : Type 0 where
-  pub is : r ≡ told out xs
+-- from s to r these sites are told, when these texts come first; they are taken
+record Lists (s r : Telling) (ts : List (List Use)) (xs : List Plain.Site) : Type 0 where
+  pub tells : (rest : List (List Use)) → s.texts ≡ ts ++ rest → r.told ≡ told s.told xs
+  pub leaves : (rest : List (List Use)) → s.texts ≡ ts ++ rest → r.texts ≡ rest
 
-none : (out : Told) → Lists out out []
-none out = record { is = told_none out }
+none : (s : Telling) → Lists s s [] []
+none s = record { tells = λ rest e. told_none s.told; leaves = λ rest e. e }
 
-onward : {out r s : Told} {xs ys : List Plain.Site} → Lists out r xs → Lists r s ys → Lists out s (xs ++ ys)
-onward {out} {r} {s} {xs} {ys} h k = record {
-  is = k.is ∙ ap (λ ts. told ts ys) h.is ∙ told_both out xs ys;
+onward : {s r q : Telling} {ts us : List (List Use)} {xs ys : List Plain.Site} → Lists s r ts xs → Lists r q us ys
+    → Lists s q (ts ++ us) (xs ++ ys)
+onward {s} {r} {q} {ts} {us} {xs} {ys} h k = record {
+  tells = λ rest e.
+      let split = e ∙ append_assoc ts us rest in
+      k.tells rest (h.leaves (us ++ rest) split) ∙ ap (λ o. told o ys) (h.tells (us ++ rest) split)
+      ∙ told_both s.told xs ys;
+  leaves = λ rest e. k.leaves rest (h.leaves (us ++ rest) (e ∙ append_assoc ts us rest));
 }
 
-one : (out : Told) (x : Plain.Site) (us : List Use) → us ≡ x.captures
-    → Lists out (listing x.place x.key x.params us out) (x ∷ [])
-one out x us e = record { is = ap (λ vs. listing x.place x.key x.params vs out) e ∙ told_one out x }
+-- a function that has no text of its own
+one : (s : Telling) (x : Plain.Site) (us : List Use) → us ≡ x.captures
+    → Lists s (record { told = listing x.place x.key x.params us s.told; texts = s.texts }) [] (x ∷ [])
+one s x us e = record {
+  tells = λ rest h. ap (λ vs. listing x.place x.key x.params vs s.told) e ∙ told_one s.told x;
+  leaves = λ rest h. h;
+}
 
-tied_inside : {n g : Scope} {st : Held} (ds : Defs) (k : ℕ) → Tied n st g
-    → Tied (named ds n) (group_held ds n st) (in_group ds k g)
-tied_inside {n} {g} {st} ds k w =
+-- a function with the next text
+taken : (s : Telling) (x : Plain.Site) (st : Held) (n : ℕ) (t : List Use) → resolved st n t ≡ x.captures
+    → Lists s (record {
+      told = listing x.place x.key x.params (next_captures st n s.texts) s.told;
+      texts = later_texts s.texts;
+    }) (t ∷ []) (x ∷ [])
+taken s x st n t h = record {
+  tells = λ rest e.
+      ap (λ ts. listing x.place x.key x.params (next_captures st n ts) s.told) e
+      ∙ ap (λ us. listing x.place x.key x.params us s.told) h ∙ told_one s.told x;
+  leaves = λ rest e. ap later_texts e;
+}
+
+-- once the next text is known and taken
+behind : (s r : Telling) (t : List Use) (ts : List (List Use)) (xs : List Plain.Site)
+    → ((rest : List (List Use)) → s.texts ≡ t ∷ rest → Lists (text_taken s) r ts xs) → Lists s r (t ∷ ts) xs
+behind s r t ts xs f = record {
+  tells = λ rest e. (f (ts ++ rest) e).tells rest (ap later_texts e);
+  leaves = λ rest e. (f (ts ++ rest) e).leaves rest (ap later_texts e);
+}
+
+tied_inside : {n g : Scope} {st : Held} {us : List Use} (ds : Defs) (k : ℕ) → us ≡ group_captures ds g → Tied n st g
+    → Tied (named ds n) (group_held ds (length n) us st) (in_group ds k g)
+tied_inside {n} {g} {st} ds k h w =
     subst (λ us. Tied (named ds n) (with_group ds us (padded (length n) st)) (in_group ds k g))
-    (sym (group_captured ds w)) (tied_group ds k (group_captures ds g) (below_once (length g) [] _) w)
+    (sym h) (tied_group ds k (group_captures ds g) (below_once (length g) [] _) w)
 
 mutual
-  lists : (e : Expr) {n g : Scope} {st : Held} (k : ℕ) (out : Told) → Tied n st g
-      → Lists out (listed e n st out) (sites e g k)
-  lists (values p es) k out w = lists_all es k out w
-  lists (var p x) k out w = none out
-  lists (fun_name p f) k out w = none out
-  lists (literal p t) k out w = none out
-  lists (list p es e) k out w = onward (lists_all es k out w) (lists e (k + sites_in_all es) _ w)
-  lists (tuple p es) k out w = lists_all es k out w
-  lists (new_map p ps) k out w = lists_parts ps k out w
-  lists (map_of p ps e) k out w = onward (lists_parts ps k out w) (lists e (k + sites_in_parts ps) _ w)
-  lists (binary p ss) k out w = lists_segments ss k out w
-  lists (fun p xs e) {n} {g} k out w =
-      onward (one out (fun_site p xs e g (suc k)) _ (fun_captured (fun p xs e) w))
+  lists : (e : Expr) {n g : Scope} {st : Held} (k : ℕ) (s : Telling) → Tied n st g
+      → Lists s (listed e n st s) (texts e n) (sites e g k)
+  lists (values p es) k s w = lists_all es k s w
+  lists (var p x) k s w = none s
+  lists (fun_name p f) k s w = none s
+  lists (literal p t) k s w = none s
+  lists (list p es e) k s w = onward (lists_all es k s w) (lists e (k + sites_in_all es) _ w)
+  lists (tuple p es) k s w = lists_all es k s w
+  lists (new_map p ps) k s w = lists_parts ps k s w
+  lists (map_of p ps e) k s w = onward (lists_parts ps k s w) (lists e (k + sites_in_parts ps) _ w)
+  lists (binary p ss) k s w = lists_segments ss k s w
+  lists (fun p xs e) {n} {g} {st} k s w =
+      onward (taken s (fun_site p xs e g (suc k)) st (length n) _ (fun_captured (fun p xs e) w))
       (lists e (suc k) _ (tied_names (names_of xs) w))
-  lists (let_in p xs a b) k out w =
-      onward (lists a k out w) (lists b (k + sites_in a) _ (tied_names (names_of xs) w))
-  lists (letrec p ds b) {n} {g} {st} k out w =
-      onward (lists_defs ds k (group_captured ds w) out (tied_inside ds k w))
-      (lists b (k + sites_in_defs ds) _ (tied_inside ds k w))
-  lists (case p e cs) k out w = onward (lists e k out w) (lists_clauses cs (k + sites_in e) _ w)
-  lists (apply p e es) k out w = onward (lists e k out w) (lists_all es (k + sites_in e) _ w)
-  lists (call p m f es) k out w =
-      onward (onward (lists m k out w) (lists f (k + sites_in m) _ w))
+  lists (let_in p xs a b) k s w =
+      onward (lists a k s w) (lists b (k + sites_in a) _ (tied_names (names_of xs) w))
+  lists (letrec p ds b) {n} {g} {st} k s w =
+      behind s _ _ (texts_defs ds (named ds n) ++ texts b (named ds n)) _ (λ rest e.
+      let same = ap (λ ts. next_captures st (length n) ts) e ∙ group_captured ds w in
+      onward (lists_defs ds k same (text_taken s) (tied_inside ds k same w))
+      (lists b (k + sites_in_defs ds) _ (tied_inside ds k same w)))
+  lists (case p e cs) k s w = onward (lists e k s w) (lists_clauses cs (k + sites_in e) _ w)
+  lists (apply p e es) k s w = onward (lists e k s w) (lists_all es (k + sites_in e) _ w)
+  lists (call p m f es) k s w =
+      onward (onward (lists m k s w) (lists f (k + sites_in m) _ w))
       (lists_all es (k + sites_in m + sites_in f) _ w)
-  lists (primop p n es) k out w = lists_all es k out w
-  lists (do_then p a b) k out w = onward (lists a k out w) (lists b (k + sites_in a) _ w)
-  lists (catch p e) k out w = lists e k out w
-  lists (try p a xs b ys c) k out w =
-      onward (onward (lists a k out w) (lists b (k + sites_in a) _ (tied_names (names_of xs) w)))
+  lists (primop p n es) k s w = lists_all es k s w
+  lists (do_then p a b) k s w = onward (lists a k s w) (lists b (k + sites_in a) _ w)
+  lists (catch p e) k s w = lists e k s w
+  lists (try p a xs b ys c) k s w =
+      onward (onward (lists a k s w) (lists b (k + sites_in a) _ (tied_names (names_of xs) w)))
       (lists c (k + sites_in a + sites_in b) _ (tied_names (names_of ys) w))
-  lists (receive p cs t b) k out w =
-      onward (onward (lists_clauses cs k out w) (lists t (k + sites_in_clauses cs) _ w))
+  lists (receive p cs t b) k s w =
+      onward (onward (lists_clauses cs k s w) (lists t (k + sites_in_clauses cs) _ w))
       (lists b (k + sites_in_clauses cs + sites_in t) _ w)
 
-  lists_all : (es : Exprs) {n g : Scope} {st : Held} (k : ℕ) (out : Told) → Tied n st g
-      → Lists out (listed_all es n st out) (sites_all es g k)
-  lists_all no_expr k out w = none out
-  lists_all (and_expr e es) k out w = onward (lists e k out w) (lists_all es (k + sites_in e) _ w)
+  lists_all : (es : Exprs) {n g : Scope} {st : Held} (k : ℕ) (s : Telling) → Tied n st g
+      → Lists s (listed_all es n st s) (texts_all es n) (sites_all es g k)
+  lists_all no_expr k s w = none s
+  lists_all (and_expr e es) k s w = onward (lists e k s w) (lists_all es (k + sites_in e) _ w)
 
-  lists_parts : (ps : MapParts) {n g : Scope} {st : Held} (k : ℕ) (out : Told) → Tied n st g
-      → Lists out (listed_parts ps n st out) (sites_parts ps g k)
-  lists_parts no_part k out w = none out
-  lists_parts (and_part (map_part a v x) ps) k out w =
-      onward (onward (lists a k out w) (lists v (k + sites_in a) _ w))
+  lists_parts : (ps : MapParts) {n g : Scope} {st : Held} (k : ℕ) (s : Telling) → Tied n st g
+      → Lists s (listed_parts ps n st s) (texts_parts ps n) (sites_parts ps g k)
+  lists_parts no_part k s w = none s
+  lists_parts (and_part (map_part a v x) ps) k s w =
+      onward (onward (lists a k s w) (lists v (k + sites_in a) _ w))
       (lists_parts ps (k + sites_in a + sites_in v) _ w)
 
-  lists_segments : (ss : Segments) {n g : Scope} {st : Held} (k : ℕ) (out : Told) → Tied n st g
-      → Lists out (listed_segments ss n st out) (sites_segments ss g k)
-  lists_segments no_segment k out w = none out
-  lists_segments (and_segment (segment p v s u t f) ss) k out w =
-      onward (onward (lists v k out w) (lists s (k + sites_in v) _ w))
-      (lists_segments ss (k + sites_in v + sites_in s) _ w)
+  lists_segments : (ss : Segments) {n g : Scope} {st : Held} (k : ℕ) (s : Telling) → Tied n st g
+      → Lists s (listed_segments ss n st s) (texts_segments ss n) (sites_segments ss g k)
+  lists_segments no_segment k s w = none s
+  lists_segments (and_segment (segment p v z u t f) ss) k s w =
+      onward (onward (lists v k s w) (lists z (k + sites_in v) _ w))
+      (lists_segments ss (k + sites_in v + sites_in z) _ w)
 
-  lists_defs : (ds : Defs) {n g : Scope} {st : Held} {us vs : List Use} (k : ℕ) → us ≡ vs → (out : Told)
-      → Tied n st g → Lists out (listed_defs ds n st us out) (sites_defs ds g vs k)
-  lists_defs no_def k h out w = none out
-  lists_defs (and_def (def p f (fun q xs e)) ds) {n} {g} {st} {us} {vs} k h out w =
-      onward (onward (one out (named_site p f (fun q xs e) g vs (suc k)) us h)
+  lists_defs : (ds : Defs) {n g : Scope} {st : Held} {us vs : List Use} (k : ℕ) → us ≡ vs → (s : Telling)
+      → Tied n st g → Lists s (listed_defs ds n st us s) (texts_defs ds n) (sites_defs ds g vs k)
+  lists_defs no_def k h s w = none s
+  lists_defs (and_def (def p f (fun q xs e)) ds) {n} {g} {st} {us} {vs} k h s w =
+      onward (onward (one s (named_site p f (fun q xs e) g vs (suc k)) us h)
       (lists e (suc k) _ (tied_names (names_of xs) w))) (lists_defs ds (k + suc (sites_in e)) h _ w)
-  lists_defs (and_def (def p f e) ds) {n} {g} {st} {us} {vs} k h out w =
-      onward (onward (one out (named_site p f e g vs (suc k)) us h) (lists e (suc k) _ w))
+  lists_defs (and_def (def p f e) ds) {n} {g} {st} {us} {vs} k h s w =
+      onward (onward (one s (named_site p f e g vs (suc k)) us h) (lists e (suc k) _ w))
       (lists_defs ds (k + suc (sites_in e)) h _ w)
 
-  lists_clauses : (cs : Clauses) {n g : Scope} {st : Held} (k : ℕ) (out : Told) → Tied n st g
-      → Lists out (listed_clauses cs n st out) (sites_clauses cs g k)
-  lists_clauses no_clause k out w = none out
-  lists_clauses (and_clause (clause p qs e b) cs) k out w =
+  lists_clauses : (cs : Clauses) {n g : Scope} {st : Held} (k : ℕ) (s : Telling) → Tied n st g
+      → Lists s (listed_clauses cs n st s) (texts_clauses cs n) (sites_clauses cs g k)
+  lists_clauses no_clause k s w = none s
+  lists_clauses (and_clause (clause p qs e b) cs) k s w =
       let inner = tied_names (bound_all qs) w in
-      onward (onward (lists e k out inner) (lists b (k + sites_in e) _ inner))
+      onward (onward (lists e k s inner) (lists b (k + sites_in e) _ inner))
       (lists_clauses cs (k + sites_in e + sites_in b) _ w)
 
-lists_own : (ds : Defs) (g : Scope) (k : ℕ) (out : Told) → Lists out (own_listings ds out) (own_sites ds g k)
-lists_own no_def g k out = none out
-lists_own (and_def (def p f e) ds) g k out =
-    onward (one out (named_site p f e g [] k) [] refl) (lists_own ds g (k + sites_in (body_of e)) _)
+own_told : (ds : Defs) (g : Scope) (k : ℕ) (out : Told) → own_listings ds out ≡ told out (own_sites ds g k)
+own_told no_def g k out = told_none out
+own_told (and_def (def p f e) ds) g k out =
+    own_told ds g (k + sites_in (body_of e)) _
+    ∙ ap (λ o. told o (own_sites ds g (k + sites_in (body_of e)))) (told_one out (named_site p f e g [] k))
+    ∙ told_both out (named_site p f e g [] k ∷ []) (own_sites ds g (k + sites_in (body_of e)))
 
-lists_inside : (ds : Defs) {n g : Scope} {st : Held} (k : ℕ) (out : Told) → Tied n st g
-    → Lists out (all_inside ds n st out) (inner_sites ds g k)
-lists_inside no_def k out w = none out
-lists_inside (and_def (def p f (fun q xs e)) ds) k out w =
-    onward (lists e k out (tied_names (names_of xs) w)) (lists_inside ds (k + sites_in e) _ w)
-lists_inside (and_def (def p f e) ds) k out w =
-    onward (lists e k out w) (lists_inside ds (k + sites_in e) _ w)
+lists_inside : (ds : Defs) {n g : Scope} {st : Held} (k : ℕ) (s : Telling) → Tied n st g
+    → Lists s (all_inside ds n st s) (texts_defs ds n) (inner_sites ds g k)
+lists_inside no_def k s w = none s
+lists_inside (and_def (def p f (fun q xs e)) ds) k s w =
+    onward (lists e k s (tied_names (names_of xs) w)) (lists_inside ds (k + sites_in e) _ w)
+lists_inside (and_def (def p f e) ds) k s w =
+    onward (lists e k s w) (lists_inside ds (k + sites_in e) _ w)
 
 nothing : Level [] [] []
 nothing = record {
@@ -360,10 +395,18 @@ nothing = record {
   level = refl;
 }
 
+module_text : (ds : Defs) → module_texts ds (named ds []) ≡ texts_defs ds (named ds []) ++ []
+module_text ds =
+    (walks_defs ds (record { uses = []; texts = [] }) (ready_named ds (ready nothing.tied))).texts
+    ∙ sym (append-nil (texts_defs ds (named ds [])))
+
 module_told : (m : Module) (out : Told) → listed_module m.defs out ≡ told out (module_sites m)
 module_told m out =
-    (onward (lists_own m.defs (module_scope m.defs 0 []) (def_count m.defs) out)
-    (lists_inside m.defs (def_count m.defs) _ (level_module m.defs 0 nothing).tied)).is
+    (lists_inside m.defs (def_count m.defs) _ (level_module m.defs 0 nothing).tied).tells [] (module_text m.defs)
+    ∙ ap (λ o. told o (inner_sites m.defs (module_scope m.defs 0 []) (def_count m.defs)))
+    (own_told m.defs (module_scope m.defs 0 []) (def_count m.defs) out)
+    ∙ told_both out (own_sites m.defs (module_scope m.defs 0 []) (def_count m.defs))
+    (inner_sites m.defs (module_scope m.defs 0 []) (def_count m.defs))
 
 sites_told : (m : Module) → listed_module m.defs (Sites []) ≡ Sites (map shown (module_sites m))
 sites_told m = module_told m (Sites [])
@@ -390,8 +433,16 @@ pub all_counts : (m : Module) (all : Told) (ns : List ℕ) → all ≡ listed_mo
 unfolding counts_of
 all_counts m all ns h e = ap counts_of (sym e ∙ h ∙ counts_told m)
 
+-- sites stay sites, and counts counts
+
+pub no_counts : (m : Module) (all : Told) (ns : List ℕ) → all ≡ listed_module m.defs (Sites []) → all ≡ Counts ns → ⊥
+no_counts m all ns h e = let k = sym e ∙ h ∙ sites_told m in cc
+
+pub no_sites : (m : Module) (all : Told) (xs : List Site) → all ≡ listed_module m.defs (Counts []) → all ≡ Sites xs → ⊥
+no_sites m all xs h e = let k = sym e ∙ h ∙ counts_told m in cc
+
 -- a definition's functions are those of its right side
-pub inside_right : (p : Place) (f : FunKey) (e : Expr) (g : Scope) (st : Held) (out : Told)
-    → listed_inside (def p f e) g st out ≡ right_listed e g st out
-inside_right p f (fun q xs e) g st out = refl
-inside_right p f e g st out = refl
+pub inside_right : (p : Place) (f : FunKey) (e : Expr) (g : Scope) (st : Held) (s : Telling)
+    → listed_inside (def p f e) g st s ≡ right_listed e g st s
+inside_right p f (fun q xs e) g st s = refl
+inside_right p f e g st s = refl

@@ -5,7 +5,7 @@ use Rattle.erl_base.specs.Lists.{among}
 use Rattle.core_form.specs.Scope.{Use, numbers_of}
 use Rattle.core_form.specs.Captures.{once_below}
 use Rattle.core_sites.specs.Gathering.{put, put_all}
-use Rattle.core_sites.proofs.Alike.{Alike}
+use Rattle.core_sites.proofs.Alike.{Alike, once_twice}
 
 pub put_all_append : (l : ℕ) (us vs ws : List Use) → put_all l us (vs ++ ws) ≡ put_all l (put_all l us vs) ws
 put_all_append l us [] ws = refl
@@ -51,6 +51,13 @@ put_once l us (v ∷ vs) =
 pub put_alike : {vs ws : List Use} (l : ℕ) (us : List Use) → Alike vs ws → put_all l us vs ≡ put_all l us ws
 put_alike {vs} {ws} l us h =
     put_once l us vs ∙ ap (λ ts. us ++ ts) (h.first l (numbers_of us)) ∙ sym (put_once l us ws)
+
+-- what was put below a higher bound
+pub put_twice : (l n : ℕ) (us vs : List Use) → l ≤ n → put_all l us (put_all n [] vs) ≡ put_all l us vs
+put_twice l n us vs h =
+    put_once l us (put_all n [] vs)
+    ∙ ap (λ ts. us ++ once_below l (numbers_of us) ts) (put_once n [] vs)
+    ∙ ap (λ ts. us ++ ts) (once_twice l n (numbers_of us) vs h) ∙ sym (put_once l us vs)
 
 -- What a set of the numbers tells.
 

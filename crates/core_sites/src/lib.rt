@@ -9,8 +9,12 @@
 
 mod bind;
 mod gather;
+mod held;
 mod laws;
 mod listing;
+mod putting;
+mod texts;
+mod told;
 mod used;
 
 pub use laws::{captures_are_expanded, group_captures_are_expanded};

@@ -1,4 +1,4 @@
-use Rattle.std.proofs.Common.{rules, ◌≡◌, ◌++◌, ◌∙◌, sym, ap, refl, subst, map, OnOk}
+use Rattle.std.proofs.Common.{rules, ◌≡◌, ◌++◌, ◌∙◌, sym, ap, subst, map, OnOk}
 use Rattle.core_form.specs.declared.tree.ExprForm.{the_lemmas}
 use Rattle.core_form.specs.Scope.{with_names, bound, bound_all, bound_keys, bound_segs}
 use Rattle.core_form.specs.View.{pattern_view, patterns, keys, segs}

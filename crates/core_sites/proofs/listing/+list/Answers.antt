@@ -1,9 +1,8 @@
-use Rattle.std.proofs.Common.{◌≡◌, ◌∙◌, rules, ◌-◌, sym, ap, refl, subst, map, drop, take, length, OnOk, arith}
+use Rattle.std.proofs.Common.{◌≡◌, ◌∙◌, rules, ◌-◌, sym, ap, refl, subst, map, drop, take, length, OnOk}
 use Rattle.core_form.specs.declared.tree.ExprForm.{the_lemmas}
 use Rattle.core_form.specs.Core as Plain
 use Rattle.core_form.specs.Scope.{names_of, bound_all}
 use Rattle.core_form.specs.View.{view, def_view, pattern_view, defs, patterns}
-use Rattle.core_sites.specs.Gathering.{named}
 use Rattle.core_sites.specs.Listing.{with_group, listed_inside}
 use Rattle.core_sites.proofs.Lists.{inside_right}
 use Rattle.core_sites.proofs.Outside.{inner_names, longer, left, inside_named, held_left}
@@ -38,20 +37,20 @@ list_clause-returns-clause-names n c =
 pub list_fun-leave-requires : goal.list_fun-leave-requires
 list_fun-leave-requires n c =
     longer c.list_boxed.new.names c.len-outside.result (inner_names c.args.names.now (names_of c.as_slice.result.now))
-    (c.in_ok-list_boxed.ensures.names ∙ c.in_ok-captures.ensures.names ∙ c.in_ok-bind_vars.ensures.ok)
+    (c.in_ok-list_boxed.ensures.names ∙ c.in_ok-bind_vars.ensures.ok)
     c.len-outside.ensures.value
 
 pub list_fun-returns-clause-names : goal.list_fun-returns-clause-names
 list_fun-returns-clause-names n c =
     c.leave.ensures
     ∙ left c.list_boxed.new.names c.len-outside.result (inner_names c.args.names.now (names_of c.as_slice.result.now))
-    (c.in_ok-list_boxed.ensures.names ∙ c.in_ok-captures.ensures.names ∙ c.in_ok-bind_vars.ensures.ok)
+    (c.in_ok-list_boxed.ensures.names ∙ c.in_ok-bind_vars.ensures.ok)
     c.len-outside.ensures.value
 
 pub list_group-returns-clause-inside : goal.list_group-returns-clause-inside
 list_group-returns-clause-inside n c =
     inside_named (defs (map def_view c.args.items.now)) c.args.names.now c.list_defs.new.names
-    (c.in_ok-list_defs.ensures.names ∙ c.in_ok-captures.ensures.names ∙ c.in_ok-bind_defs.ensures.ok)
+    (c.in_ok-list_defs.ensures.names ∙ c.in_ok-bind_defs.ensures.ok)
 
 pub list_expr-returns-in_ok-list_group-in-Letrec-clause-names : goal.list_expr-returns-in_ok-list_group-in-Letrec-clause-names
 list_expr-returns-in_ok-list_group-in-Letrec-clause-names n c =
@@ -75,16 +74,16 @@ list_group-returns-clause-behind n c =
     ∙ ap (λ st. with_group (defs (map def_view c.args.items.now)) c.as_slice-2.result.now st) c.in_ok-pad.ensures)
     refl
 
-pub list_inside-returns-clause-sites : goal.list_inside-returns-clause-sites
-list_inside-returns-clause-sites n c =
+pub list_inside-returns-clause-state : goal.list_inside-returns-clause-state
+list_inside-returns-clause-state n c =
     let split : def_view c.args.def.now
     ≡ Plain.def c.args.def.now.place c.args.def.now.key (view c.args.def.now.fun)
     = search (rules, the_lemmas) in
-    subst (λ t. OnOk c.list_right.result (c.list_right.new.out ≡ t))
-    (sym (ap (λ d. listed_inside d c.args.names.now c.args.held.now c.args.out.now) split
+    subst (λ t. OnOk c.list_right.result (c.list_right.new.state ≡ t))
+    (sym (ap (λ d. listed_inside d c.args.names.now c.args.held.now c.args.state.now) split
     ∙ inside_right c.args.def.now.place c.args.def.now.key (view c.args.def.now.fun) c.args.names.now c.args.held.now
-    c.args.out.now))
-    c.list_right.ensures.sites
+    c.args.state.now))
+    c.list_right.ensures.state
 
 pub list_right-returns-clause-names : goal.list_right-returns-clause-names
 list_right-returns-clause-names n c = c.list_expr.ensures.names

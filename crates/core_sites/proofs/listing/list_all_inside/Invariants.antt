@@ -7,6 +7,6 @@ abbrev pub invariant-loop-item : goal.invariant-loop-item
 invariant-loop-item l = record {
   names : l.names ≡ l.initial.names;
   held : l.held ≡ l.initial.held;
-  sites : all_inside (defs (map def_view (drop l.item-index l.items))) l.names l.held l.out
-      ≡ all_inside (defs (map def_view l.items)) l.initial.names l.initial.held l.initial.out;
+  state : all_inside (defs (map def_view (drop l.item-index l.items))) l.names l.held l.state
+      ≡ all_inside (defs (map def_view l.items)) l.initial.names l.initial.held l.initial.state;
 }

@@ -1,7 +1,6 @@
-use Rattle.std.proofs.Common.{◌≡◌, sym, ap, ◌∙◌, ◌++◌, ◌∷◌, [], if◌then◌else◌, arith}
+use Rattle.std.proofs.Common.{sym, ap, ◌∙◌, ◌++◌, ◌∷◌, [], if◌then◌else◌, arith}
 use Rattle.erl_base.specs.Lists.{among}
 use Rattle.core_form.specs.Scope.{numbers_of}
-use Rattle.core_sites.specs.Gathering.{put}
 use Rattle.core_sites.proofs.Puts.{any_among, numbers_last, put_high, put_seen, put_new}
 use Rattle.core_sites.proofs.used.Uses.put.Goals as goal
 use Rattle.core_sites.proofs.used.Uses.put.Goals.{then-number-limit-via-then-number-limit, then-number-limit-via-else-number-limit+then-contains}

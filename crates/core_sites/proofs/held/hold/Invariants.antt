@@ -1,7 +1,7 @@
 use Rattle.std.proofs.Common.{◌≡◌, drop, map}
 use Rattle.core_form.specs.View.{def_view, defs}
 use Rattle.core_sites.specs.Listing.{with_group}
-use Rattle.core_sites.proofs.listing.hold.Given as goal
+use Rattle.core_sites.proofs.held.hold.Given as goal
 
 abbrev pub invariant-loop-item : goal.invariant-loop-item
 invariant-loop-item l =

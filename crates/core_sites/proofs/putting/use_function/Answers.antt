@@ -2,7 +2,7 @@ use Rattle.std.proofs.Common.{◌≡◌, ◌∙◌, ap, subst, OnOk}
 use Rattle.std.specs.Str.{chars}
 use Rattle.core_sites.specs.Things.{use_at}
 use Rattle.core_sites.specs.Gathering.{put, put_all, thing}
-use Rattle.core_sites.proofs.gather.use_function.Goals as goal
+use Rattle.core_sites.proofs.putting.use_function.Goals as goal
 
 pub returns-in_ok-nameless-in-Some : goal.returns-in_ok-nameless-in-Some
 unfolding chars

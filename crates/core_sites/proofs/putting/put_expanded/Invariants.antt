@@ -1,7 +1,7 @@
 use Rattle.std.proofs.Common.{◌≡◌, drop}
 use Rattle.core_sites.specs.Things.{expanded}
 use Rattle.core_sites.specs.Gathering.{put_all, group_at}
-use Rattle.core_sites.proofs.gather.put_expanded.Given as goal
+use Rattle.core_sites.proofs.putting.put_expanded.Given as goal
 
 abbrev pub invariant-loop-item : goal.invariant-loop-item
 invariant-loop-item l =

@@ -3,7 +3,7 @@ use Rattle.core_sites.specs.Things.{instead, expanded}
 use Rattle.core_sites.specs.Gathering.{put_all, group_at}
 use Rattle.core_sites.proofs.Outside.{acted}
 use Rattle.core_sites.proofs.Puts.{put_all_append}
-use Rattle.core_sites.proofs.gather.put_expanded.Goals as goal
+use Rattle.core_sites.proofs.putting.put_expanded.Goals as goal
 
 pub loop-item-preserved : goal.loop-item-preserved
 loop-item-preserved c =

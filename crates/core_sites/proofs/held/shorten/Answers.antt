@@ -1,6 +1,6 @@
 use Rattle.std.proofs.Common.{◌<◌, length, arith}
 use Rattle.core_sites.proofs.Outside.{popped}
-use Rattle.core_sites.proofs.listing.shorten.Goals as goal
+use Rattle.core_sites.proofs.held.shorten.Goals as goal
 
 pub loop-i-preserved : goal.loop-i-preserved
 loop-i-preserved c =

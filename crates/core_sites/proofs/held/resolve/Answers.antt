@@ -4,7 +4,7 @@ use Rattle.core_sites.specs.Gathering.{put_all}
 use Rattle.core_sites.specs.Listing.{held_at}
 use Rattle.core_sites.proofs.Outside.{acted}
 use Rattle.core_sites.proofs.Puts.{put_all_append}
-use Rattle.core_sites.proofs.listing.resolve.Goals as goal
+use Rattle.core_sites.proofs.held.resolve.Goals as goal
 
 pub loop-item-preserved : goal.loop-item-preserved
 loop-item-preserved c =
