@@ -4,5 +4,6 @@ pub mod Captured
 pub mod Puts
 pub mod Groups
 pub mod Walks
+pub mod Tied
 pub mod Lists
 pub mod Outside

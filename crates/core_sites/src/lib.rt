@@ -1,4 +1,5 @@
-//! The functions of a module with what each captures, without walking a group's text again and again.
+//! The functions of a module with what each captures: one walk gathers what the text of each function uses, and one
+//! lists them.
 //!
 //! In `let <X> = 1 in letrec 'f'/0 = fun () -> X in fun () -> apply 'f'/0()` the last fun uses `'f'/0` alone, once; and
 //! since X is what `'f'/0` captures, the fun captures X, at the place of `'f'/0`.

@@ -18,7 +18,7 @@ use erl_base::{Boxed, List, NoMemory, Place};
 use std::alloc::Global;
 
 /// All functions of a module: its definitions, which capture nothing, and then the others in the order of the text.
-/// It takes the time of the text, once for each function that a part of it stands in, and of the captures.
+/// It takes the time of the text and of the captures, and holds what each function uses until that is listed.
 pub fn sites(alloc: Global, m: &Module) -> Result<SiteList, NoMemory>
     ensures { IfOk result (λ sites. sites ≡ map shown (module_sites (module_view m.now))) }
 {
@@ -29,8 +29,8 @@ pub fn sites(alloc: Global, m: &Module) -> Result<SiteList, NoMemory>
     }
 }
 
-/// How many variables each function captures, in the order of `sites`, in the time of that call. What is held at a
-/// time is the captures of the groups around one place.
+/// How many variables each function captures, in the order of `sites`, in the time of that call. What each function
+/// uses is held until it is counted, and beside that the captures of the groups around one place.
 pub fn capture_counts(alloc: Global, m: &Module) -> Result<List<u64>, NoMemory>
     ensures { IfOk result (λ counts. counts ≡ map (λ x. length x.captures) (module_sites (module_view m.now))) }
 {
@@ -161,7 +161,8 @@ fn list_fun(
 ) -> Result<(), NoMemory>
     ensures names { OnOk result (names.new ≡ names.old) }
     ensures held { OnOk result (held.new ≡ held.old) }
-    ensures state { OnOk result (state.new ≡ listed (fun place params.now (view body.now)) names.old held.old state.old) }
+    ensures state { OnOk result (state.new
+        ≡ listed (fun place params.now (view body.now)) names.old held.old state.old) }
 {
     let outside = names.len();
     bind_vars(params.as_slice(), names)?;
@@ -291,7 +292,8 @@ fn list_part(
 ) -> Result<(), NoMemory>
     ensures names { OnOk result (names.new ≡ names.old) }
     ensures held { OnOk result (held.new ≡ held.old) }
-    ensures state { OnOk result (state.new ≡ listed_parts (parts (part_view part.now ∷ [])) names.old held.old state.old) }
+    ensures state { OnOk result (state.new
+        ≡ listed_parts (parts (part_view part.now ∷ [])) names.old held.old state.old) }
 {
     list_expr(&part.key, names, held, state, alloc)?;
     list_expr(&part.value, names, held, state, alloc)
@@ -307,7 +309,8 @@ fn list_parts(
 ) -> Result<(), NoMemory>
     ensures names { OnOk result (names.new ≡ names.old) }
     ensures held { OnOk result (held.new ≡ held.old) }
-    ensures state { OnOk result (state.new ≡ listed_parts (parts (map part_view items.now)) names.old held.old state.old) }
+    ensures state { OnOk result (state.new
+        ≡ listed_parts (parts (map part_view items.now)) names.old held.old state.old) }
 {
     for item in items {
         list_part(item, names, held, state, alloc)?;
