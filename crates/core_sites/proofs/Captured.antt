@@ -101,7 +101,8 @@ function_at (variable y m ∷ g) r f p h = function_at g r f p (λ n k. h n (ome
 function_at (function q s us ∷ g) r f p h =
     function_if (same_key f q) r s s (length g) us p (record { line = 0; column = 0 }) (function_of g f)
     (function_of (unexpanded g) f)
-    (h (length g) (omega arith) ∙ ap (λ b. if b then Some us else captures_at g (length g)) (eq-eqb (length g) (length g) refl))
+    (h (length g) (omega arith)
+    ∙ ap (λ b. if b then Some us else captures_at g (length g)) (eq-eqb (length g) (length g) refl))
     (function_at g r f p (λ n k. h n (omega (arith, k)) ∙ at_more g q s us n k))
 
 fits : (g : Scope) → IsNumbered g → Fits (length g) (captures_at g) (unexpanded g) g
@@ -175,7 +176,8 @@ below_silent g h (u ∷ us) i w =
     below_append (length g) (instead (captures_at h u.number) u) (expanded (captures_at h) us)
     ∙ elim (cases_lt u.number (length g)) [
       | inl k ↦
-          ap (λ o. below (length g) (instead o u) ++ below (length g) (expanded (captures_at h) us)) (w.outer u.number k)
+          ap (λ o. below (length g) (instead o u) ++ below (length g) (expanded (captures_at h) us))
+          (w.outer u.number k)
           ∙ ap (λ ts. ts ++ below (length g) (expanded (captures_at h) us))
           (kept_instead (captures_at g u.number) (length g) u k (λ vs. at_inner g u.number vs i))
           ∙ ap (λ ts. instead (captures_at g u.number) u ++ ts) rest
@@ -191,7 +193,8 @@ group_captures_expanded ds g h =
     let inner = with_defs ds 0 [] g in
     let used = occurring_defs ds (unexpanded inner) in
     let numbered = numbered_defs ds 0 g h in
-    (stands_defs (length inner) (captures_at inner) (low inner numbered) ds (fits inner numbered)).alike.first (length g) []
+    (stands_defs (length inner) (captures_at inner) (low inner numbered) ds (fits inner numbered)).alike.first
+    (length g) []
     ∙ sym (once_of_below (length g) (length g) [] (expanded (captures_at inner) used) (omega arith))
     ∙ ap (λ ts. once_below (length g) [] ts) (below_silent g inner used h (silent_defs ds 0 g g (silent_itself g)))
     ∙ sym ((alike_once (captures_at g) (length g) used).first (length g) [])

@@ -106,7 +106,10 @@ module _ (n m : ℕ) (us : List Use) where
     plain = λ x k i.
         let j = w.within x k (sym (binding_unexpanded g x) ∙ i) in
         stead_below n m k us (omega (arith, j, e));
-    stands = λ f p. record { alike = equal _ _ (marks g (stead n m us) f p (λ k i. stead_below n m k us (omega (arith, i, e)))) };
+    stands = λ f p. record {
+      alike = equal _ _ (marks g (stead n m us) f p (λ k i. stead_below n m k us (omega
+          (arith, i, e))));
+    };
     long = refl;
   }
 
@@ -119,7 +122,8 @@ module _ (n m : ℕ) (us : List Use) where
       (reads_function m (stead n m us) f k 0 us (use_at [] (length g) (record { line = 0; column = 0 }) ∷ []) w
       (λ q. record {
         alike = equal _ _ (sym (append-nil (placed q us))
-            ∙ sym (ap (λ o. instead o (use_at [] (length g) q) ++ []) (stead_at n m (length g) us i (omega (arith, j, e)))));
+            ∙ sym (ap (λ o. instead o (use_at [] (length g) q) ++ []) (stead_at n m (length g) us i (omega
+            (arith, j, e)))));
       }))
       (omega (arith, i)) e
 
@@ -186,7 +190,8 @@ group_once ds g w =
     ap (λ k. once_below k [] (occurring_defs ds (with_defs ds 0 [] (unexpanded g)))) (length_unexpanded g)
     ∙ (stands_defs (length (named ds g)) (stead (length g) (length (named ds g)) []) low ds
     (group_fits ds g [] w)).alike.first (length g) []
-    ∙ sym (once_of_below (length g) (length g) [] (expanded (stead (length g) (length (named ds g)) []) used) (omega arith))
+    ∙ sym (once_of_below (length g) (length g) [] (expanded (stead (length g) (length (named ds g)) []) used)
+    (omega arith))
     ∙ ap (λ ts. once_below (length g) [] ts) (below_stead (length g) (length (named ds g)) used)
     ∙ once_of_below (length g) (length g) [] used (omega arith)
 

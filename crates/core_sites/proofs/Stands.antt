@@ -45,7 +45,8 @@ module _ (b : ℕ) (r : ℕ → Option (List Use)) where
 
   stands_if : (a : Bool) (s t : ℕ) (us vs : List Use) (o q : Option (ℕ × List Use)) (p : Place)
       → Stands (placed p us) (placed p vs) → Stands (placed p (captured o)) (placed p (captured q))
-      → Stands (placed p (captured (if a then Some (s, us) else o))) (placed p (captured (if a then Some (t, vs) else q)))
+      → Stands (placed p (captured (if a then Some (s, us) else o))) (placed p (captured (if a then Some
+      (t, vs) else q)))
   stands_if true s t us vs o q p h k = h
   stands_if false s t us vs o q p h k = k
 

@@ -24,19 +24,22 @@ pub bind_patterns-loop-item-preserved : goal.bind_patterns-loop-item-preserved
 bind_patterns-loop-item-preserved n c =
     acted with_names with_names_append (λ xs. bound_all (patterns (map pattern_view xs))) c.loop-item.names
     c.bind_pattern.new.names c.args.items.now c.loop-item.item-index c.item-item.result
-    (bound (pattern_view c.item-item.result)) c.item-item.is c.loop-item-test.true c.in_ok-bind_pattern.ensures.ok (search (rules, the_lemmas))
+    (bound (pattern_view c.item-item.result)) c.item-item.is c.loop-item-test.true c.in_ok-bind_pattern.ensures.ok
+    (search (rules, the_lemmas))
     ∙ c.loop-item.invariant
 
 pub bind_keys-loop-item-preserved : goal.bind_keys-loop-item-preserved
 bind_keys-loop-item-preserved n c =
     acted with_names with_names_append (λ xs. bound_keys (keys (map key_view xs))) c.loop-item.names
     c.bind_key.new.names c.args.items.now c.loop-item.item-index c.item-item.result
-    (bound (pattern_view c.item-item.result.pattern)) c.item-item.is c.loop-item-test.true c.in_ok-bind_key.ensures.ok (search (rules, the_lemmas))
+    (bound (pattern_view c.item-item.result.pattern)) c.item-item.is c.loop-item-test.true
+    c.in_ok-bind_key.ensures.ok (search (rules, the_lemmas))
     ∙ c.loop-item.invariant
 
 pub bind_segs-loop-item-preserved : goal.bind_segs-loop-item-preserved
 bind_segs-loop-item-preserved n c =
     acted with_names with_names_append (λ xs. bound_segs (segs (map seg_view xs))) c.loop-item.names
     c.bind_seg.new.names c.args.items.now c.loop-item.item-index c.item-item.result
-    (bound (pattern_view c.item-item.result.value)) c.item-item.is c.loop-item-test.true c.in_ok-bind_seg.ensures.ok (search (rules, the_lemmas))
+    (bound (pattern_view c.item-item.result.value)) c.item-item.is c.loop-item-test.true c.in_ok-bind_seg.ensures.ok
+    (search (rules, the_lemmas))
     ∙ c.loop-item.invariant

@@ -55,7 +55,8 @@ gather_group-returns-clause-inside n c =
     inside_named (defs (map def_view c.args.items.now)) c.args.names.now c.gather_defs.new.names
     (c.in_ok-gather_defs.ensures.names ∙ c.in_ok-bind_defs.ensures.ok)
 
-pub gather_expr-returns-in_ok-gather_group-in-Letrec-clause-names : goal.gather_expr-returns-in_ok-gather_group-in-Letrec-clause-names
+pub gather_expr-returns-in_ok-gather_group-in-Letrec-clause-names :
+    goal.gather_expr-returns-in_ok-gather_group-in-Letrec-clause-names
 gather_expr-returns-in_ok-gather_group-in-Letrec-clause-names n c =
     subst (λ g. OnOk c.gather_rest.result (c.gather_rest.new.names ≡ g))
     (ap (λ k. drop (length c.gather_group.new.names - k) c.gather_group.new.names) c.len-outside.ensures.value

@@ -52,14 +52,16 @@ list_group-returns-clause-inside n c =
     inside_named (defs (map def_view c.args.items.now)) c.args.names.now c.list_defs.new.names
     (c.in_ok-list_defs.ensures.names ∙ c.in_ok-bind_defs.ensures.ok)
 
-pub list_expr-returns-in_ok-list_group-in-Letrec-clause-names : goal.list_expr-returns-in_ok-list_group-in-Letrec-clause-names
+pub list_expr-returns-in_ok-list_group-in-Letrec-clause-names :
+    goal.list_expr-returns-in_ok-list_group-in-Letrec-clause-names
 list_expr-returns-in_ok-list_group-in-Letrec-clause-names n c =
     subst (λ g. OnOk c.list_rest.result (c.list_rest.new.names ≡ g))
     (ap (λ k. drop (length c.list_group.new.names - k) c.list_group.new.names) c.len-outside.ensures.value
     ∙ c.in_ok-list_group-in-Letrec.ensures.inside.left)
     c.list_rest.ensures.names
 
-pub list_expr-returns-in_ok-list_group-in-Letrec-clause-held : goal.list_expr-returns-in_ok-list_group-in-Letrec-clause-held
+pub list_expr-returns-in_ok-list_group-in-Letrec-clause-held :
+    goal.list_expr-returns-in_ok-list_group-in-Letrec-clause-held
 list_expr-returns-in_ok-list_group-in-Letrec-clause-held n c =
     subst (λ st. OnOk c.list_rest.result (c.list_rest.new.held ≡ st))
     (ap (λ k. take k c.list_group.new.held) c.len-held_outside.ensures.value
