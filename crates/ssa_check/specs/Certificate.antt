@@ -55,8 +55,8 @@ pub record FitsStep (b : Body) (a : Notes) (p q : Point) (is' : List Handler) (e
       → IsFalse (among v e.reads) × (IsFalse (among v e.phis) → IsFalse (among v (a.available q)))
 
 -- An edge from p leads to a block that is there and whose phis know it. Out of a block without a look the rank falls;
--- the level never rises, and falls out of a block with an operation that no cycle holds. A landing is entered by a raise,
--- which closes its handler.
+-- the level never rises, and falls out of a block with an operation that no cycle holds. A landing is entered by a
+-- raise, which closes its handler.
 pub record FitsEdge (b : Body) (a : Notes) (p : Point) (m : ℕ) (is' : List Handler) : Type 0 where
   pub there : block_at b m ≢ None
   pub phis : IsTrue (have_edges (phis_at b m) p.block)
