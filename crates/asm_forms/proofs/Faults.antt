@@ -14,7 +14,7 @@ use Rattle.form_read.proofs.FormsRead.{end_sound, end_complete, form_sound, form
 use Rattle.beam_table.specs.Code.{AsmModule}
 use Rattle.beam_table.specs.ValidModule.{every, attribute_ok, Valid}
 use Rattle.asm_forms.specs.Stages.{Head, Stage, at_start, stage_behind, stage_behind_all, whole_head}
-use Rattle.asm_forms.specs.ModuleOfText.{module_of_head, FormsAgree, TextOf, is_valid, forms_agree, fault_at_end, fault_by_stage, fault_by_form, fault_behind, fault_in, fault_at}
+use Rattle.asm_forms.specs.ModuleOfText.{module_of_head, FormsAgree, AssemblyText, is_valid, forms_agree, fault_at_end, fault_by_stage, fault_by_form, fault_behind, fault_in, fault_at}
 
 -- Tests and facts.
 
@@ -138,7 +138,7 @@ fault_free (suc n) total s _ _ h (some_forms cs ds t fs f r) e g k =
 
 -- Whole texts.
 
-text_told : (bytes : List ℕ) → IsUtf8 bytes → fault_in (chars bytes) ≡ None → (a : AsmModule) × TextOf bytes a
+text_told : (bytes : List ℕ) → IsUtf8 bytes → fault_in (chars bytes) ≡ None → (a : AsmModule) × AssemblyText bytes a
 unfolding fault_in
 text_told bytes u e =
     let r = no_fault (suc (length (chars bytes))) (length (chars bytes)) at_start (chars bytes) e in (
@@ -153,7 +153,7 @@ text_told bytes u e =
       },
     )
 
-text_tested : (bytes : List ℕ) (a : AsmModule) → TextOf bytes a → fault_in (chars bytes) ≡ None
+text_tested : (bytes : List ℕ) (a : AsmModule) → AssemblyText bytes a → fault_in (chars bytes) ≡ None
 unfolding fault_in
 text_tested bytes a x =
     let c = x.characters in
@@ -161,17 +161,17 @@ text_tested bytes a x =
     fault_free (suc (length (chars bytes))) (length (chars bytes)) at_start (chars bytes) c.forms c.read.head c.spelled
     c.read.ordered c.read.agree (omega (arith, k))
 
-pub faultless : (bytes : List ℕ) → fault_at bytes ≡ None → (a : AsmModule) × TextOf bytes a
+pub faultless : (bytes : List ℕ) → fault_at bytes ≡ None → (a : AsmModule) × AssemblyText bytes a
 unfolding fault_at
 faultless bytes e = by (is_utf8 bytes) refl e
   where
     by : (b : Bool) → is_utf8 bytes ≡ b
         → (if b then fault_in (chars bytes) else Some (length (chars (take (utf8_valid_len bytes) bytes)))) ≡ None
-        → (a : AsmModule) × TextOf bytes a
+        → (a : AsmModule) × AssemblyText bytes a
     by true w h = text_told bytes (IsUtf8-from_is_utf8 bytes w) h
     by false w h = absurd cc
 
-pub faultless_texts : (bytes : List ℕ) (a : AsmModule) → TextOf bytes a → fault_at bytes ≡ None
+pub faultless_texts : (bytes : List ℕ) (a : AsmModule) → AssemblyText bytes a → fault_at bytes ≡ None
 unfolding fault_at
 faultless_texts bytes a x =
     ap (λ b. if b then fault_in (chars bytes) else Some (length (chars (take (utf8_valid_len bytes) bytes))))

@@ -40,7 +40,7 @@ pub record CharactersOf (cs : List ℕ) (a : AsmModule) : Type 0 where
   pub read : FormsOf (map (λ f. f.term) forms) a
 
 -- a text that has a module
-pub record TextOf (bytes : List ℕ) (a : AsmModule) : Type 0 where
+pub record AssemblyText (bytes : List ℕ) (a : AsmModule) : Type 0 where
   pub utf8 : IsUtf8 bytes
   pub characters : CharactersOf (chars bytes) a
 

@@ -2,7 +2,7 @@ ghost use Rattle.std.specs.Prelude.{◌≡◌, List, ℕ, None, IsTrue, map};
 ghost use Rattle.beam_table.specs.Code.{AsmModule};
 ghost use Rattle.beam_table.specs.ModuleForms.{forms};
 ghost use Rattle.beam_table.specs.ValidModule.{every, Valid};
-ghost use Rattle.asm_forms.specs.ModuleOfText.{FormsOf, CharactersOf, TextOf, fault_at};
+ghost use Rattle.asm_forms.specs.ModuleOfText.{FormsOf, CharactersOf, AssemblyText, fault_at};
 ghost use Rattle.asm_forms.specs.Lines.{Line, lines, is_line};
 
 use form_read::text_has_one_row_of_forms;
@@ -10,15 +10,15 @@ use insn_terms::printed_instructions_are_read;
 
 /// A text has at most one module.
 pub fn text_has_one_module_of_forms()
-    ensures { (bytes : List ℕ) (a b : AsmModule) → TextOf bytes a → TextOf bytes b → a ≡ b }
+    ensures { (bytes : List ℕ) (a b : AsmModule) → AssemblyText bytes a → AssemblyText bytes b → a ≡ b }
 {
     text_has_one_row_of_forms();
 }
 
 /// A text has a fault exactly where it has no module.
 pub fn faults_decide_texts()
-    ensures none { (bytes : List ℕ) → fault_at bytes ≡ None → (a : AsmModule) × TextOf bytes a }
-    ensures read { (bytes : List ℕ) (a : AsmModule) → TextOf bytes a → fault_at bytes ≡ None }
+    ensures none { (bytes : List ℕ) → fault_at bytes ≡ None → (a : AsmModule) × AssemblyText bytes a }
+    ensures read { (bytes : List ℕ) (a : AsmModule) → AssemblyText bytes a → fault_at bytes ≡ None }
 {}
 
 /// The forms that are printed of a valid module are, in their order, those of this module.

@@ -6,7 +6,7 @@
 //! fault there, so no characters stand before it; one whose func_info says another function has it at its end.
 //!
 //! `stage_behind` is one function from what is known of a module and a form to what is known then, and `FormsAgree` is
-//! what no single form shows. `TextOf` says from these which module a text has, and `fault_at` is a function that finds
+//! what no single form shows. `AssemblyText` says from these which module a text has, and `fault_at` is a function that finds
 //! the first fault of a text: there is none exactly where there is a module (`faults_decide_texts`).
 //!
 //! The catch: a text that is no UTF-8 has its fault behind its longest front that is, whatever stands before.
