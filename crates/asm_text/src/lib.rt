@@ -23,7 +23,6 @@
 mod encode;
 mod laws;
 mod printer;
-mod words;
 
 pub use encode::encoded;
 pub use laws::{examples_have_their_texts, text_has_one_module};

@@ -11,11 +11,10 @@ ghost use Rattle.term_text.specs.Printing.{Adds};
 ghost use Rattle.beam_table.specs.ModuleForms.{key_term, function_form, func_info_form, greatest};
 ghost use Rattle.asm_text.specs.AssemblyText.{line_on, insn_on, code_on, head_on, first_on, module_text, source_has_text, insn_has_text, HasText, AssemblyText};
 
-use crate::words::put_str;
 use beam_table::{AsmFun, AsmModule, Insn, Reg, Source};
 use erl_base::{FunKey, LabelId, List, Name, NoMemory, Text};
 use std::alloc::Global;
-use term_text::{put_atom, put_integer, put_number, put_u32};
+use term_text::{put_integer, put_name, put_number, put_str, put_u32};
 
 /// The printed text of a module. It is the text of this module, and of no other.
 pub fn print(alloc: Global, a: &AsmModule) -> Result<Text, NoMemory>
@@ -27,58 +26,58 @@ pub fn print(alloc: Global, a: &AsmModule) -> Result<Text, NoMemory>
         (λ text. (b : Plain) → AssemblyText (encode_utf8_all text) b → b ≡ module_view a.now) }
 {
     let mut out = List::new(alloc);
-    put_first(alloc, &mut out, a)?;
+    put_first(&mut out, a)?;
     for function in a.funs.as_slice() {
-        put_head(alloc, &mut out, &a.name, function)?;
-        put_code(alloc, &mut out, function.code.as_slice())?;
+        put_head(&mut out, &a.name, function)?;
+        put_code(&mut out, function.code.as_slice())?;
     }
     Ok(out)
 }
 
 // The forms before the functions.
-fn put_first(alloc: Global, out: &mut Text, a: &AsmModule) -> Result<(), NoMemory>
+fn put_first(out: &mut Text, a: &AsmModule) -> Result<(), NoMemory>
     requires { HasText (module_view a.now) }
     ensures { OnOk result (Adds out.old out.new (first_on (module_view a.now))) }
 {
     put_str(out, "{module,")?;
-    put_atom(alloc, out, &a.name)?;
+    put_name(out, &a.name)?;
     put_str(out, "}.\n{exports,")?;
-    put_keys(alloc, out, a.exports.as_slice())?;
+    put_keys(out, a.exports.as_slice())?;
     put_str(out, "}.\n{attributes,[]}.\n{labels,")?;
     put_number(out, label_bound(a.funs.as_slice()))?;
     put_str(out, "}.\n")?;
     Ok(())
 }
 
-fn put_keys(alloc: Global, out: &mut Text, keys: &[FunKey]) -> Result<(), NoMemory>
+fn put_keys(out: &mut Text, keys: &[FunKey]) -> Result<(), NoMemory>
     ensures { OnOk result (Adds out.old out.new (term_on (list_of (map key_term keys.now) T.nil))) }
 {
     let Some((first, others)) = keys.split_first() else {
         return put_str(out, "[]");
     };
     put_str(out, "[")?;
-    put_key(alloc, out, first)?;
-    put_others(alloc, out, others)?;
+    put_key(out, first)?;
+    put_others(out, others)?;
     Ok(())
 }
 
 // What stands behind the first key of a list.
-fn put_others(alloc: Global, out: &mut Text, keys: &[FunKey]) -> Result<(), NoMemory>
+fn put_others(out: &mut Text, keys: &[FunKey]) -> Result<(), NoMemory>
     ensures { OnOk result (Adds out.old out.new (rest_on (list_of (map key_term keys.now) T.nil))) }
 {
     for key in keys {
         put_str(out, ",")?;
-        put_key(alloc, out, key)?;
+        put_key(out, key)?;
     }
     put_str(out, "]")?;
     Ok(())
 }
 
-fn put_key(alloc: Global, out: &mut Text, key: &FunKey) -> Result<(), NoMemory>
+fn put_key(out: &mut Text, key: &FunKey) -> Result<(), NoMemory>
     ensures { OnOk result (Adds out.old out.new (term_on (key_term key.now))) }
 {
     put_str(out, "{")?;
-    put_atom(alloc, out, &key.name)?;
+    put_name(out, &key.name)?;
     put_str(out, ",")?;
     put_u32(out, key.arity)?;
     put_str(out, "}")?;
@@ -124,22 +123,22 @@ fn label_or_zero(insn: &Insn) -> u32
 }
 
 // The forms before the code of a function.
-fn put_head(alloc: Global, out: &mut Text, of: &Name, function: &AsmFun) -> Result<(), NoMemory>
+fn put_head(out: &mut Text, of: &Name, function: &AsmFun) -> Result<(), NoMemory>
     ensures { OnOk result (Adds out.old out.new (head_on of.now (fun_view function.now))) }
 {
-    put_function(alloc, out, function)?;
+    put_function(out, function)?;
     put_label(out, function.info)?;
-    put_func_info(alloc, out, of, &function.key)?;
+    put_func_info(out, of, &function.key)?;
     put_label(out, function.entry)?;
     Ok(())
 }
 
-fn put_function(alloc: Global, out: &mut Text, function: &AsmFun) -> Result<(), NoMemory>
+fn put_function(out: &mut Text, function: &AsmFun) -> Result<(), NoMemory>
     ensures { OnOk result
         (Adds out.old out.new (λ r. codes "\n" ++ line_on [] (function_form (fun_view function.now)) r)) }
 {
     put_str(out, "\n{function,")?;
-    put_atom(alloc, out, &function.key.name)?;
+    put_name(out, &function.key.name)?;
     put_str(out, ",")?;
     put_u32(out, function.key.arity)?;
     put_str(out, ",")?;
@@ -148,13 +147,13 @@ fn put_function(alloc: Global, out: &mut Text, function: &AsmFun) -> Result<(), 
     Ok(())
 }
 
-fn put_func_info(alloc: Global, out: &mut Text, of: &Name, key: &FunKey) -> Result<(), NoMemory>
+fn put_func_info(out: &mut Text, of: &Name, key: &FunKey) -> Result<(), NoMemory>
     ensures { OnOk result (Adds out.old out.new (line_on (codes "    ") (func_info_form of.now key.now))) }
 {
     put_str(out, "    {func_info,{atom,")?;
-    put_atom(alloc, out, of)?;
+    put_name(out, of)?;
     put_str(out, "},{atom,")?;
-    put_atom(alloc, out, &key.name)?;
+    put_name(out, &key.name)?;
     put_str(out, "},")?;
     put_u32(out, key.arity)?;
     put_str(out, "}.\n")?;
@@ -170,22 +169,22 @@ fn put_label(out: &mut Text, at: LabelId) -> Result<(), NoMemory>
     Ok(())
 }
 
-fn put_code(alloc: Global, out: &mut Text, code: &[Insn]) -> Result<(), NoMemory>
+fn put_code(out: &mut Text, code: &[Insn]) -> Result<(), NoMemory>
     requires { IsTrue (every insn_has_text (map insn_view code.now)) }
     ensures { OnOk result (Adds out.old out.new (code_on (map insn_view code.now))) }
 {
     for insn in code {
-        put_insn(alloc, out, insn)?;
+        put_insn(out, insn)?;
     }
     Ok(())
 }
 
-fn put_insn(alloc: Global, out: &mut Text, insn: &Insn) -> Result<(), NoMemory>
+fn put_insn(out: &mut Text, insn: &Insn) -> Result<(), NoMemory>
     requires { IsTrue (insn_has_text (insn_view insn.now)) }
     ensures { OnOk result (Adds out.old out.new (insn_on (insn_view insn.now))) }
 {
     match insn {
-        Insn::Move(source, to) => put_move(alloc, out, source, *to),
+        Insn::Move(source, to) => put_move(out, source, *to),
         Insn::Return => put_str(out, "    return.\n"),
         Insn::Label(..)
         | Insn::Swap(..)
@@ -259,35 +258,35 @@ fn put_insn(alloc: Global, out: &mut Text, insn: &Insn) -> Result<(), NoMemory>
     }
 }
 
-fn put_move(alloc: Global, out: &mut Text, source: &Source, to: Reg) -> Result<(), NoMemory>
+fn put_move(out: &mut Text, source: &Source, to: Reg) -> Result<(), NoMemory>
     requires { IsTrue (source_has_text (source_view source.now)) }
     ensures { OnOk result (Adds out.old out.new (insn_on (move (source_view source.now) (reg_view to)))) }
 {
     put_str(out, "    {move,")?;
-    put_source(alloc, out, source)?;
+    put_source(out, source)?;
     put_str(out, ",")?;
     put_reg(out, to)?;
     put_str(out, "}.\n")?;
     Ok(())
 }
 
-fn put_source(alloc: Global, out: &mut Text, source: &Source) -> Result<(), NoMemory>
+fn put_source(out: &mut Text, source: &Source) -> Result<(), NoMemory>
     requires { IsTrue (source_has_text (source_view source.now)) }
     ensures { OnOk result (Adds out.old out.new (term_on (source_term (source_view source.now)))) }
 {
     match source {
         Source::Reg(reg) => put_reg(out, *reg),
-        Source::Atom(name) => put_atom_operand(alloc, out, name),
+        Source::Atom(name) => put_atom_operand(out, name),
         Source::Integer(integer) => put_whole(out, integer),
         Source::Nil | Source::Literal(_) => unreachable!(),
     }
 }
 
-fn put_atom_operand(alloc: Global, out: &mut Text, name: &Name) -> Result<(), NoMemory>
+fn put_atom_operand(out: &mut Text, name: &Name) -> Result<(), NoMemory>
     ensures { OnOk result (Adds out.old out.new (term_on (source_term (atom name.now)))) }
 {
     put_str(out, "{atom,")?;
-    put_atom(alloc, out, name)?;
+    put_name(out, name)?;
     put_str(out, "}")?;
     Ok(())
 }

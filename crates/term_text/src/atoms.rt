@@ -1,13 +1,14 @@
-ghost use Rattle.std.specs.Prelude.{◌≡◌, ◌++◌, IfOk, OnOk};
+ghost use Rattle.std.specs.Prelude.{◌≡◌, ◌≤◌, ◌<◌, ◌+◌, ◌++◌, ◌∷◌, [], chars, if◌then◌else◌, false, OnOk};
 ghost use Rattle.std.specs.List.{list_all, list_any};
+ghost use Rattle.std.specs.Fmt.{digit_glyph, digits};
 ghost use Rattle.erl_base.specs.Names.{same_name};
+ghost use Rattle.core_chars.specs.Characters.{is_lower};
 ghost use Rattle.term_text.specs.Atoms.{is_name_character, is_kept, is_plain_name, quoted_character, quoted_characters, atom_text};
 ghost use Rattle.term_text.specs.Printing.{Adds};
 
-use crate::bytes::{push_bytes, push_plain};
+use crate::bytes::{push_bytes, push_str};
 use core_chars::{is_digit, is_lower, is_upper};
 use erl_base::{Name, NoMemory, Text};
-use std::alloc::Global;
 
 /// Words that an atom may not be without quotes.
 const KEPT: [&[u8]; 29] = [
@@ -17,21 +18,27 @@ const KEPT: [&[u8]; 29] = [
 ];
 
 /// Writes an atom, in quotes where it needs them.
-pub fn put_atom(alloc: Global, out: &mut Text, name: &Name) -> Result<(), NoMemory>
+pub fn put_name(out: &mut Text, name: &Name) -> Result<(), NoMemory>
     ensures { OnOk result (Adds out.old out.new (λ r. atom_text name.now ++ r)) }
 {
-    push_atom(alloc, out, name)
+    put_word(out, name.as_str())
 }
 
-fn push_atom(alloc: Global, out: &mut Text, name: &Name) -> Result<(), NoMemory>
-    ensures { OnOk result (out.new ≡ out.old ++ atom_text name.now) }
+/// Writes the atom that a text spells.
+pub fn put_word(out: &mut Text, word: &str) -> Result<(), NoMemory>
+    ensures { OnOk result (Adds out.old out.new (λ r. atom_text (chars word.now) ++ r)) }
 {
-    let all = characters(alloc, name)?;
-    if is_plain_name(all.as_slice()) {
-        return push_plain(out, all.as_slice());
+    push_atom(out, word)
+}
+
+fn push_atom(out: &mut Text, word: &str) -> Result<(), NoMemory>
+    ensures { OnOk result (out.new ≡ out.old ++ atom_text (chars word.now)) }
+{
+    if is_plain_word(word) {
+        return push_str(out, word);
     }
     push_bytes(out, b"'")?;
-    push_characters(alloc, out, all.as_slice())?;
+    push_characters(out, word)?;
     push_bytes(out, b"'")
 }
 
@@ -93,22 +100,70 @@ pub fn is_same(word: &[u8], name: &[char]) -> bool
     true
 }
 
-fn characters(alloc: Global, name: &Name) -> Result<Vec<char>, NoMemory>
-    ensures { IfOk result (λ all. all.items ≡ name.now) }
+/// The same of a text, by one walk.
+fn is_plain_word(word: &str) -> bool
+    ensures { result ≡ is_plain_name (chars word.now) }
 {
-    Ok(name.as_str().chars().collect(alloc)?)
+    let mut begun = false;
+    for c in word.chars() {
+        if !goes_on(begun, c) {
+            return false;
+        }
+        begun = true;
+    }
+    begun && !is_kept_word(word)
 }
 
-fn push_characters(alloc: Global, out: &mut Text, name: &[char]) -> Result<(), NoMemory>
-    ensures { OnOk result (out.new ≡ out.old ++ quoted_characters name.now) }
+fn goes_on(begun: bool, c: char) -> bool
+    ensures { result ≡ (if begun then is_name_character c else is_lower c) }
 {
-    for c in name {
-        push_character(alloc, out, *c)?;
+    if begun {
+        is_name_character(c)
+    } else {
+        is_lower(c)
+    }
+}
+
+fn is_kept_word(word: &str) -> bool
+    ensures { result ≡ is_kept (chars word.now) }
+{
+    is_word_among(&KEPT, word)
+}
+
+fn is_word_among(words: &[&[u8]], name: &str) -> bool
+    ensures { result ≡ list_any (λ word. same_name word.now (chars name.now)) words.now }
+{
+    for word in words {
+        if is_spelled(word, name) {
+            return true;
+        }
+    }
+    false
+}
+
+fn is_spelled(word: &[u8], name: &str) -> bool
+    ensures { result ≡ same_name word.now (chars name.now) }
+{
+    let mut at = 0;
+    for c in name.chars() {
+        if at >= word.len() || char::from(word[at]) != c {
+            return false;
+        }
+        at += 1;
+    }
+    at == word.len()
+}
+
+fn push_characters(out: &mut Text, name: &str) -> Result<(), NoMemory>
+    ensures { OnOk result (out.new ≡ out.old ++ quoted_characters (chars name.now)) }
+{
+    for c in name.chars() {
+        push_character(out, c)?;
     }
     Ok(())
 }
 
-fn push_character(alloc: Global, out: &mut Text, c: char) -> Result<(), NoMemory>
+fn push_character(out: &mut Text, c: char) -> Result<(), NoMemory>
     ensures { OnOk result (out.new ≡ out.old ++ quoted_character c) }
 {
     if c == '\\' {
@@ -118,10 +173,32 @@ fn push_character(alloc: Global, out: &mut Text, c: char) -> Result<(), NoMemory
         return push_bytes(out, b"\\'");
     }
     if c <= '\x1F' || c == '\x7F' {
-        let digits = format!(in alloc; "{:x}", u32::from(c))?;
         push_bytes(out, b"\\x{")?;
-        push_bytes(out, digits.as_bytes())?;
+        push_hex(out, u32::from(c))?;
         return push_bytes(out, b"}");
     }
     out.push(c)
+}
+
+/// A byte in hexadecimal, without a leading zero.
+fn push_hex(out: &mut Text, byte: u32) -> Result<(), NoMemory>
+    requires { byte < 256 }
+    ensures { OnOk result (out.new ≡ out.old ++ digits 16 false byte) }
+{
+    if byte < 16 {
+        return out.push(hex_digit(byte));
+    }
+    out.push(hex_digit(byte / 16))?;
+    out.push(hex_digit(byte % 16))
+}
+
+fn hex_digit(digit: u32) -> char
+    requires { digit < 16 }
+    ensures { result ≡ digit_glyph false digit }
+{
+    if digit < 10 {
+        char::from(b'0' + digit as u8)
+    } else {
+        char::from(b'a' + (digit - 10) as u8)
+    }
 }

@@ -1,10 +1,11 @@
 // Characters at the end of a text.
-ghost use Rattle.std.specs.Prelude.{◌≡◌, ◌++◌, OnOk};
+ghost use Rattle.std.specs.Prelude.{◌≡◌, ◌++◌, OnOk, chars};
 ghost use Rattle.term_text.specs.Printing.{Adds};
 
 use erl_base::{NoMemory, Text};
 
-pub(crate) fn push_bytes(out: &mut Text, bytes: &[u8]) -> Result<(), NoMemory>
+/// Writes the characters with these codes.
+pub fn push_bytes(out: &mut Text, bytes: &[u8]) -> Result<(), NoMemory>
     ensures joined { OnOk result (out.new ≡ out.old ++ bytes.now) }
     ensures added { OnOk result (Adds out.old out.new (λ r. bytes.now ++ r)) }
 {
@@ -14,11 +15,18 @@ pub(crate) fn push_bytes(out: &mut Text, bytes: &[u8]) -> Result<(), NoMemory>
     Ok(())
 }
 
-pub(crate) fn push_plain(out: &mut Text, characters: &[char]) -> Result<(), NoMemory>
-    ensures { OnOk result (out.new ≡ out.old ++ characters.now) }
+/// Writes the characters of a text as they are.
+pub fn put_str(out: &mut Text, text: &str) -> Result<(), NoMemory>
+    ensures { OnOk result (Adds out.old out.new (λ r. chars text.now ++ r)) }
 {
-    for c in characters {
-        out.push(*c)?;
+    push_str(out, text)
+}
+
+pub(crate) fn push_str(out: &mut Text, text: &str) -> Result<(), NoMemory>
+    ensures { OnOk result (out.new ≡ out.old ++ chars text.now) }
+{
+    for c in text.chars() {
+        out.push(c)?;
     }
     Ok(())
 }

@@ -12,6 +12,7 @@ mod bytes;
 mod numbers;
 mod write;
 
-pub use atoms::{is_name_character, is_plain_name, is_same, put_atom};
+pub use atoms::{is_name_character, is_plain_name, is_same, put_name, put_word};
+pub use bytes::{push_bytes, put_str};
 pub use numbers::{put_integer, put_number, put_u32};
-pub use write::write_term;
+pub use write::{put_term, write_term};

@@ -5,4 +5,4 @@ use Rattle.asm_text.proofs.printer.put_atom_operand.Goals as goal
 
 pub returns : goal.returns
 unfolding chars texts
-returns c r = c.in_ok-put_str-2.ensures r ∙ c.in_ok-put_atom.ensures _ ∙ c.in_ok-put_str.ensures _
+returns c r = c.in_ok-put_str-2.ensures r ∙ c.in_ok-put_name.ensures _ ∙ c.in_ok-put_str.ensures _

@@ -6,4 +6,4 @@ use Rattle.asm_text.proofs.printer.put_function.Goals as goal
 pub returns : goal.returns
 unfolding chars texts
 returns c r = c.in_ok-put_str-4.ensures r ∙ c.in_ok-put_u32-2.ensures _ ∙ c.in_ok-put_str-3.ensures _
-    ∙ c.in_ok-put_u32.ensures _ ∙ c.in_ok-put_str-2.ensures _ ∙ c.in_ok-put_atom.ensures _ ∙ c.in_ok-put_str.ensures _
+    ∙ c.in_ok-put_u32.ensures _ ∙ c.in_ok-put_str-2.ensures _ ∙ c.in_ok-put_name.ensures _ ∙ c.in_ok-put_str.ensures _

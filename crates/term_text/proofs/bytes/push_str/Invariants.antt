@@ -1,5 +1,5 @@
 use Rattle.std.proofs.Common.{◌≡◌, ◌++◌, chars, IsUtf8}
-use Rattle.asm_text.proofs.words.put_str.Given as goal
+use Rattle.term_text.proofs.bytes.push_str.Given as goal
 
 abbrev pub invariant-loop-c : goal.invariant-loop-c
 invariant-loop-c l = record {

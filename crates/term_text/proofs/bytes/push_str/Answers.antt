@@ -1,7 +1,7 @@
 use Rattle.std.proofs.Common.{rules}
 use Rattle.std.proofs.lemmas.Str.{IsUtf8-past_char}
-use Rattle.asm_text.proofs.Growth.{char_added, text_added}
-use Rattle.asm_text.proofs.words.put_str.Goals as goal
+use Rattle.term_text.proofs.Walks.{char_added, chars_ended}
+use Rattle.term_text.proofs.bytes.push_str.Goals as goal
 
 pub loop-c-preserved : goal.loop-c-preserved
 loop-c-preserved c = record {
@@ -11,4 +11,4 @@ loop-c-preserved c = record {
 }
 
 pub returns : goal.returns
-returns c = text_added _ _ _ _ c.in-None.ensures.steps.0.0 c.loop-c.invariant.added
+returns c = chars_ended _ _ _ c.in-None.ensures.steps.0.0 c.loop-c.invariant.added
