@@ -18,18 +18,11 @@ use Rattle.beam_table.specs.OperandBounds.{most_arity, label_ok, operand_ok, ins
 use Rattle.beam_table.specs.ModuleForms.{key_term, attribute_term, exports_form, attributes_form, function_form, func_info_form, function_forms}
 use Rattle.beam_table.specs.ValidModule.{every}
 use Rattle.insn_terms.specs.Reading.{checked, items_of, next, at_end, atom_of, arity_value, bare_label_value, singles, pair_of, insn_of}
+use Rattle.insn_terms.proofs.Apart.{items_there, listed-terms}
 use Rattle.asm_forms.specs.FormParts.{key_term_of, exports_form_of, attributes_form_of, function_in, function_form_of, func_info_form_of, label_only, label_form_of, is_dropped}
 use Rattle.asm_forms.specs.Stages.{FunForms, Head, behind_labels, behind_function, behind_info, behind_func_info, in_code, with_function, with_insn, begun, code_or_function, stage_behind, stage_behind_all, whole_head}
 
 -- Terms that are made and taken apart again.
-
-items_there : (ts : List Term) → items_of (list_of ts T.nil) ≡ Some ts
-items_there [] = refl
-items_there (t ∷ ts) = ap (λ r. r >>= λ us. Some (t ∷ us)) (items_there ts)
-
-listed-terms : (ts : List Term) → listed (terms ts) ≡ ts
-listed-terms [] = refl
-listed-terms (t ∷ ts) = ap (λ us. t ∷ us) (listed-terms ts)
 
 arity_there : (n : ℕ) → leb n most_arity ≡ true → arity_value (number_term n) ≡ Some n
 unfolding operand_ok

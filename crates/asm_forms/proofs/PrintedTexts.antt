@@ -11,13 +11,10 @@ use Rattle.beam_table.specs.Code.{Insn, AsmFun, AsmModule}
 use Rattle.beam_table.specs.OperandBounds.{most_arity, label_ok, insn_ok}
 use Rattle.beam_table.specs.ModuleForms.{greatest, attributes_form, labels_form, function_forms, forms}
 use Rattle.beam_table.specs.ValidModule.{every, labels_in, all_labels, entries_of, names_own, names_entries, labels_of, fun_ok, Valid}
+use Rattle.insn_terms.proofs.Apart.{same_itself}
 use Rattle.asm_forms.specs.Stages.{FunForms, Head, behind_exports, behind_attributes, stage_behind_all, whole_head}
 use Rattle.asm_forms.specs.ModuleOfText.{module_of_head, func_info_agrees, FormsOf}
 use Rattle.asm_forms.proofs.PrintedModules.{InsnsRead, read_fun, fun_good, exports_there, attributes_there, all_funs_read}
-
-same_itself : (a : Name) → same_name a a ≡ true
-same_itself [] = refl
-same_itself (x ∷ xs) = both_true (eqb x x) (same_name xs xs) (eq-eqb x x refl) (same_itself xs)
 
 -- What a valid module says of its functions.
 

@@ -1,4 +1,4 @@
-mod Apart
+pub mod Apart
 mod OperandsRead
 mod SourcesRead
 mod RowsRead

@@ -14,6 +14,7 @@ use Rattle.erl_term.specs.Comparing.{AllNormal}
 use Rattle.erl_term.proofs.Forms.{seen, laid, view_as, layout-out, left_true, right_true}
 use Rattle.term_read.specs.Lexemes.{◌>>=◌}
 use Rattle.insn_terms.specs.Reading.{integer_of, atom_of, items_of, elements_of}
+use Rattle.insn_terms.proofs.Apart.{items_there, listed-terms}
 
 normal_form : (t : Term) (f : Term-F Term Pair) → out-Term t ≡ f → IsNormal t → IsTrue (laid f).normal
 normal_form t f e n = subst (λ g. IsTrue (laid g).normal) e (subst (λ l. IsTrue l.normal) (layout-out t) n)
@@ -57,20 +58,12 @@ no_tuple t n h =
     ∙ no_tuple_form (out-Term t) (normal_form t (out-Term t) refl n)
     (λ ts e. h ts (sym (roll-out-Term t) ∙ ap roll-Term e ∙ V.rolls-Tuple ts))
 
-pub listed-terms : (ts : List T.Term) → listed (terms ts) ≡ ts
-listed-terms [] = refl
-listed-terms (t ∷ ts) = ap (λ us. t ∷ us) (listed-terms ts)
-
 pub tuple_elements : (t : Term) (ts : List Term) → t ≡ V.Tuple ts → elements_of (view t) ≡ Some (map view ts)
 tuple_elements t ts e =
     ap elements_of (view_as t (form.Tuple ts) (ap out-Term e ∙ V.outs-Tuple ts)) ∙ ap Some (listed-terms (map view ts))
 
 pub tuple_normal : (t : Term) (ts : List Term) → t ≡ V.Tuple ts → IsNormal t → AllNormal ts
 tuple_normal t ts e n = normal_form t (form.Tuple ts) (ap out-Term e ∙ V.outs-Tuple ts) n
-
-items_there : (ts : List T.Term) → items_of (list_of ts T.nil) ≡ Some ts
-items_there [] = refl
-items_there (t ∷ ts) = ap (λ r. r >>= λ us. Some (t ∷ us)) (items_there ts)
 
 items_none : (ts : List T.Term) (u : T.Term) → items_of u ≡ None → items_of (list_of ts u) ≡ None
 items_none [] u e = e

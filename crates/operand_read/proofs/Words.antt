@@ -6,17 +6,7 @@ use borrow.Author.Tests.{eqb-true, eq-eqb, ltb-true}
 use Rattle.std.specs.List.{list_all}
 use Rattle.erl_base.specs.Names.{same_name}
 use Rattle.erl_term.proofs.Forms.{left_true, right_true}
-
-same : (x y : List ℕ) → same_name x y ≡ true → x ≡ y
-same [] [] e = refl
-same [] (y ∷ ys) e = absurd cc
-same (x ∷ xs) [] e = absurd cc
-same (x ∷ xs) (y ∷ ys) e =
-    ap₂ (λ z zs. z ∷ zs) (eqb-true x y (left_true (eqb x y) _ e)) (same xs ys (right_true (eqb x y) _ e))
-
-itself : (x : List ℕ) → same_name x x ≡ true
-itself [] = refl
-itself (x ∷ xs) = ap₂ (λ a b. a && b) (eq-eqb x x refl) (itself xs)
+use Rattle.insn_terms.proofs.Apart.{same_names, same_itself}
 
 both : (a b : Bool) → (a ≡ true → b ≡ true) → (b ≡ true → a ≡ true) → a ≡ b
 both true b f g = sym (f refl)
@@ -32,8 +22,8 @@ below_all (c ∷ cs) e (suc i) = below_all cs (right_true (nat_lt c 128) _ e) i
 told : (r : Bool) (a b : List ℕ) → IsUtf8 a → IsUtf8 b → r ≡ bytes_eq a b → r ≡ same_name (chars b) (chars a)
 told r a b u v e = both r (same_name (chars b) (chars a))
     (λ t. let h : a ≡ b = search (rules, t, e) in
-    subst (λ z. same_name (chars z) (chars a) ≡ true) h (itself (chars a)))
-    (λ s. let h : a ≡ b = sym (encodes-chars a u) ∙ ap encodes (sym (same (chars b) (chars a) s)) ∙ encodes-chars b v in
+    subst (λ z. same_name (chars z) (chars a) ≡ true) h (same_itself (chars a)))
+    (λ s. let h : a ≡ b = sym (encodes-chars a u) ∙ ap encodes (sym (same_names (chars b) (chars a) s)) ∙ encodes-chars b v in
     search (rules, h, e))
 
 -- with a word of ASCII
