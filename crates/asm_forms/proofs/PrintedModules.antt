@@ -7,7 +7,6 @@ use Rattle.erl_base.specs.Names.{Name, same_name, keys_distinct}
 use Rattle.erl_base.specs.declared.ids.FunKey.{FunKey}
 use Rattle.erl_term.specs.Term as T
 use Rattle.erl_term.specs.Term.{Term}
-use Rattle.erl_term.specs.Terms.{terms, listed, list_of}
 use Rattle.erl_term.proofs.Forms.{left_true, right_true}
 use Rattle.term_read.specs.Lexemes.{◌>>=◌}
 use Rattle.beam_table.specs.Code as C
@@ -17,7 +16,7 @@ use Rattle.beam_table.specs.Operands.{operands}
 use Rattle.beam_table.specs.OperandBounds.{most_arity, label_ok, operand_ok, insn_ok}
 use Rattle.beam_table.specs.ModuleForms.{key_term, attribute_term, exports_form, attributes_form, function_form, func_info_form, function_forms}
 use Rattle.beam_table.specs.ValidModule.{every}
-use Rattle.insn_terms.specs.Reading.{checked, items_of, next, at_end, atom_of, arity_value, bare_label_value, singles, pair_of, insn_of}
+use Rattle.insn_terms.specs.Reading.{checked, next, at_end, atom_of, arity_value, bare_label_value, singles, pair_of, insn_of}
 use Rattle.insn_terms.proofs.Apart.{items_there, listed-terms}
 use Rattle.asm_forms.specs.FormParts.{key_term_of, exports_form_of, attributes_form_of, function_in, function_form_of, func_info_form_of, label_only, label_form_of, is_dropped}
 use Rattle.asm_forms.specs.Stages.{FunForms, Head, behind_labels, behind_function, behind_info, behind_func_info, in_code, with_function, with_insn, begun, code_or_function, stage_behind, stage_behind_all, whole_head}

@@ -7,7 +7,7 @@ use Rattle.erl_term.specs.declared.term.Term.TheOpen.{Term-F}
 use Rattle.erl_term.specs.declared.term.Term.TheOpen as form
 use Rattle.erl_term.specs.declared.term.Pair.{Pair}
 use Rattle.erl_term.specs.Term as T
-use Rattle.erl_term.specs.Terms.{terms, listed, list_of}
+use Rattle.erl_term.specs.Terms.{list_of}
 use Rattle.erl_term.specs.View.{view}
 use Rattle.erl_term.specs.WellFormed.{layout, IsNormal}
 use Rattle.erl_term.specs.Comparing.{AllNormal}
