@@ -2,4 +2,5 @@ mod Examples
 mod Faults
 mod PrintedLines
 mod PrintedModules
+mod PrintedRanges
 mod PrintedTexts

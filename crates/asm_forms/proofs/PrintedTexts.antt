@@ -41,7 +41,7 @@ good_of es f i e h =
     (both_true (label_ok f.entry) (every insn_ok f.code) e
     (code_ok es (labels_of f) f.code (right_true (leb f.key.arity most_arity) _ h))))
 
-all_good : (es : List ℕ) (fs : List AsmFun) → every label_ok (all_labels fs) ≡ true → every (fun_ok es) fs ≡ true
+pub all_good : (es : List ℕ) (fs : List AsmFun) → every label_ok (all_labels fs) ≡ true → every (fun_ok es) fs ≡ true
     → every fun_good fs ≡ true
 all_good es [] h k = refl
 all_good es (f ∷ fs) h k =
@@ -67,7 +67,7 @@ short_key f (x ∷ fs) h g =
         ∙ left_true (leb x.key.arity most_arity) _ (left_true (fun_good x) (every fun_good fs) g)
     by false e k later = later k
 
-short_keys : (es : List FunKey) (fs : List AsmFun) → every (λ f. is_key f (map (λ g. g.key) fs)) es ≡ true
+pub short_keys : (es : List FunKey) (fs : List AsmFun) → every (λ f. is_key f (map (λ g. g.key) fs)) es ≡ true
     → every fun_good fs ≡ true → every (λ f. leb f.arity most_arity) es ≡ true
 short_keys [] fs h g = refl
 short_keys (e ∷ es) fs h g =

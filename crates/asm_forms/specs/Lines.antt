@@ -24,3 +24,7 @@ lines (l ∷ ls) = l.indent ++ term_on l.form (codes ".\n" ++ lines ls)
 abbrev pub is_line : Line → Bool
 is_line l =
     list_all is_space l.indent && leb (depth l.form) most_nesting && fits l.form && maps_rise l.form
+
+-- a term as one of a text is: its numbers are in range, and its maps rise
+abbrev pub is_sane : Term → Bool
+is_sane t = fits t && maps_rise t

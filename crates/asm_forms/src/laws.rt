@@ -3,7 +3,7 @@ ghost use Rattle.beam_table.specs.Code.{AsmModule};
 ghost use Rattle.beam_table.specs.ModuleForms.{forms};
 ghost use Rattle.beam_table.specs.ValidModule.{every, Valid};
 ghost use Rattle.asm_forms.specs.ModuleOfText.{FormsOf, CharactersOf, AssemblyText, fault_at};
-ghost use Rattle.asm_forms.specs.Lines.{Line, lines, is_line};
+ghost use Rattle.asm_forms.specs.Lines.{Line, lines, is_line, is_sane};
 
 use form_read::text_has_one_row_of_forms;
 use insn_terms::printed_instructions_are_read;
@@ -35,3 +35,8 @@ pub fn printed_lines_have_their_module()
 {
     printed_forms_have_their_module();
 }
+
+/// The forms that are printed of a valid module have numbers in range, and maps that rise.
+pub fn printed_forms_are_in_range()
+    ensures { (a : AsmModule) → Valid a → IsTrue (every is_sane (forms a)) }
+{}

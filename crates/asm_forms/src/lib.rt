@@ -15,6 +15,6 @@
 mod laws;
 
 pub use laws::{
-    faults_decide_texts, printed_forms_have_their_module, printed_lines_have_their_module,
-    text_has_one_module_of_forms,
+    faults_decide_texts, printed_forms_are_in_range, printed_forms_have_their_module,
+    printed_lines_have_their_module, text_has_one_module_of_forms,
 };

@@ -1,4 +1,4 @@
+pub mod ModuleLines
 pub mod Rows
-pub mod Forms
-pub mod Unique
+pub mod Labels
 mod Examples

@@ -1,100 +1,63 @@
--- The text of each form, character by character.
-use Rattle.std.proofs.Common.{◌≡◌, ℕ, ℤ, ◌+◌, List, ◌++◌, map, if◌then◌else◌, codes, IsTrue, refl, ap}
+-- The text of what is printed in a loop, item by item, and that of the forms before the functions.
+use Rattle.std.proofs.Common.{◌≡◌, refl, ap, ◌∙◌, List, ◌++◌, map, flat_map, ℕ, true, codes, ◌+◌}
 use Rattle.erl_base.specs.Names.{Name}
-use Rattle.erl_base.specs.declared.ids.FunKey.{FunKey}
-use Rattle.erl_term.specs.Term as T
-use Rattle.erl_term.specs.Term.{Term}
-use Rattle.erl_term.specs.Terms.{list_of}
-use Rattle.term_text.specs.Decimal.{decimal_on, integer_on}
-use Rattle.term_text.specs.Atoms.{is_plain_name, quoted_characters, atom_text}
-use Rattle.term_text.specs.TermText.{texts, term_on, rest_on}
-use Rattle.beam_table.specs.Code as C
-use Rattle.beam_table.specs.Code.{Reg, x_reg, y_reg, Source, move, return, AsmFun, AsmModule}
-use Rattle.beam_table.specs.InstructionText.{register_term, source_term}
+use Rattle.erl_term.specs.Terms.{terms}
+use Rattle.erl_term.specs.View.{attribute_view}
+use Rattle.erl_term.specs.declared.term.Attribute.{Attribute}
+use Rattle.term_text.specs.Atoms.{atom_text}
+use Rattle.term_text.specs.Decimal.{decimal_on}
+use Rattle.term_text.specs.TermText.{texts, term_on, row_on, comma}
+use Rattle.beam_table.specs.Code.{AsmModule}
+use Rattle.beam_table.specs.ModuleForms.{key_term, attribute_term, greatest}
 use Rattle.beam_table.specs.ValidModule.{all_labels}
-use Rattle.beam_table.specs.ModuleForms.{key_term, greatest}
-use Rattle.asm_text.specs.AssemblyText.{insn_on, head_on, first_on}
+use Rattle.beam_table.specs.View.{insn_view, fun_view}
+use Rattle.beam_table.specs.declared.asm.AsmFun.{AsmFun}
+use Rattle.beam_table.specs.declared.insn.Insn.{Insn}
+use Rattle.insn_text.proofs.Loops.{Row, Item, Steps, list_text}
+use Rattle.asm_text.specs.PrintedModule.{insn_line, function_lines, first_lines, line_on, lines_on}
+use Rattle.asm_text.proofs.ModuleLines.{lines_joined}
 
--- a plain name is its own text
-pub atom_text-plain : (a : Name) → IsTrue (is_plain_name a) → atom_text a ≡ a
-atom_text-plain a p = ap (λ b. if b then a else codes "'" ++ quoted_characters a ++ codes "'") p
+abbrev pub attribute_row : Row Attribute
+attribute_row b xs r = row_on b (terms (map attribute_term (map attribute_view xs))) r
 
--- Lists.
+abbrev pub attribute_item : Item Attribute
+attribute_item b x r = comma b ++ term_on (attribute_term (attribute_view x)) r
 
-pub term_on-nil : (r : List ℕ) → term_on T.nil r ≡ codes "[]" ++ r
+pub attribute_steps : Steps attribute_row attribute_item
 unfolding texts
-term_on-nil r = refl
+attribute_steps = record { none = λ b r. refl; some = λ b x xs r. refl }
 
-pub term_on-cons : (t u : Term) (r : List ℕ) → term_on (T.cons t u) r ≡ codes "[" ++ term_on t (rest_on u r)
+abbrev pub code_row : Row Insn
+code_row b xs r = lines_on (map insn_line (map insn_view xs)) r
+
+abbrev pub code_item : Item Insn
+code_item b x r = line_on (insn_line (insn_view x)) r
+
+pub code_steps : Steps code_row code_item
+code_steps = record { none = λ b r. refl; some = λ b x xs r. refl }
+
+abbrev pub fun_row : Name → Row AsmFun
+fun_row m b xs r = lines_on (flat_map (function_lines m) (map fun_view xs)) r
+
+abbrev pub fun_item : Name → Item AsmFun
+fun_item m b x r = lines_on (function_lines m (fun_view x)) r
+
+pub fun_steps : (m : Name) → Steps (fun_row m) (fun_item m)
+fun_steps m = record {
+  none = λ b r. refl;
+  some = λ b x xs r. lines_joined (function_lines m (fun_view x)) (flat_map (function_lines m) (map fun_view xs)) r;
+}
+
+abbrev from_labels : AsmModule → List ℕ → List ℕ
+from_labels a r = codes "}.\n{labels," ++ decimal_on (greatest (all_labels a.funs) + 1) (codes "}.\n" ++ r)
+
+pub first_text : (a : AsmModule) (r : List ℕ) → lines_on (first_lines a) r
+    ≡ codes "{module," ++ (atom_text a.name ++ (codes "}.\n{exports,[" ++ row_on true (terms (map key_term a.exports))
+    (codes "]}.\n{attributes,[" ++ row_on true (terms (map attribute_term a.attributes))
+    (codes "]" ++ from_labels a r))))
 unfolding texts
-term_on-cons t u r = refl
-
-pub rest_on-nil : (r : List ℕ) → rest_on T.nil r ≡ codes "]" ++ r
-unfolding texts
-rest_on-nil r = refl
-
-pub rest_on-cons : (t u : Term) (r : List ℕ) → rest_on (T.cons t u) r ≡ codes "," ++ term_on t (rest_on u r)
-unfolding texts
-rest_on-cons t u r = refl
-
--- Keys, registers and sources.
-
-pub term_on-key : (f : FunKey) (r : List ℕ)
-    → term_on (key_term f) r ≡ codes "{" ++ (atom_text f.name ++ (codes "," ++ decimal_on f.arity (codes "}" ++ r)))
-unfolding texts
-term_on-key f r = refl
-
-pub term_on-x : (n : ℕ) (r : List ℕ)
-    → term_on (register_term (x_reg n)) r ≡ codes "{x," ++ decimal_on n (codes "}" ++ r)
-unfolding texts
-term_on-x n r = refl
-
-pub term_on-y : (n : ℕ) (r : List ℕ)
-    → term_on (register_term (y_reg n)) r ≡ codes "{y," ++ decimal_on n (codes "}" ++ r)
-unfolding texts
-term_on-y n r = refl
-
-pub term_on-atom : (a : Name) (r : List ℕ)
-    → term_on (source_term (C.atom a)) r ≡ codes "{atom," ++ (atom_text a ++ (codes "}" ++ r))
-unfolding texts
-term_on-atom a r = refl
-
-pub term_on-integer : (z : ℤ) (r : List ℕ)
-    → term_on (source_term (C.integer z)) r ≡ codes "{integer," ++ integer_on z (codes "}" ++ r)
-unfolding texts
-term_on-integer z r = refl
-
--- Instructions.
-
-pub insn_on-label : (l : ℕ) (r : List ℕ) → insn_on (C.label l) r ≡ codes "  {label," ++ decimal_on l (codes "}.\n" ++ r)
-unfolding texts
-insn_on-label l r = refl
-
-pub insn_on-move : (t : Source) (d : Reg) (r : List ℕ)
-    → insn_on (move t d) r ≡ codes "    {move,"
-    ++ term_on (source_term t) (codes "," ++ term_on (register_term d) (codes "}.\n" ++ r))
-unfolding texts
-insn_on-move t d r = refl
-
-pub insn_on-return : (r : List ℕ) → insn_on return r ≡ codes "    return.\n" ++ r
-unfolding texts
-insn_on-return r = refl
-
--- The forms before the code of a function, and those before the functions.
-
-pub head_on-text : (m : Name) (f : AsmFun) (r : List ℕ) → head_on m f r ≡
-    codes "\n{function," ++ (atom_text f.key.name
-    ++ (codes "," ++ decimal_on f.key.arity (codes "," ++ decimal_on f.entry
-    (codes "}.\n  {label," ++ decimal_on f.info
-    (codes "}.\n    {func_info,{atom,"
-    ++ (atom_text m ++ (codes "},{atom," ++ (atom_text f.key.name ++ (codes "}," ++ decimal_on f.key.arity
-    (codes "}.\n  {label," ++ decimal_on f.entry (codes "}.\n" ++ r)))))))))))
-unfolding texts
-head_on-text m f r = refl
-
-pub first_on-text : (a : AsmModule) (r : List ℕ) → first_on a r ≡
-    codes "{module," ++ (atom_text a.name
-    ++ (codes "}.\n{exports," ++ term_on (list_of (map key_term a.exports) T.nil)
-    (codes "}.\n{attributes,[]}.\n{labels," ++ decimal_on (greatest (all_labels a.funs) + 1) (codes "}.\n" ++ r))))
-unfolding texts
-first_on-text a r = refl
+first_text a r =
+    ap (λ x. codes "{module," ++ (atom_text a.name ++ (codes "}.\n{exports," ++ x)))
+    (list_text (map key_term a.exports) _
+    ∙ ap (λ x. codes "[" ++ row_on true (terms (map key_term a.exports)) (codes "]}.\n{attributes," ++ x))
+    (list_text (map attribute_term a.attributes) (from_labels a r)))

@@ -1,2 +1,3 @@
-pub mod AssemblyText
+pub mod PrintedModule
+pub mod Literals
 pub mod Examples

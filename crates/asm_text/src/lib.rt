@@ -1,4 +1,4 @@
-//! The text of an assembly module: the printer, and what module a text has. It reads no text.
+//! The printed text of an assembly module. It reads no text.
 //!
 //! The function `one/0` with the entry 2, which moves 1 to `{x,0}` and returns, is printed as
 //!
@@ -11,19 +11,19 @@
 //!     return.
 //! ```
 //!
-//! behind a head with the module's name, its exports and one more than its greatest label.
+//! behind a head with the module's name, its exports and attributes, and one more than its greatest label.
 //!
-//! Sound, since a text is one definition on the module, and the printer adds to its output what that definition says.
-//! No two modules have one text: `text_has_one_module`.
+//! Sound, since each form is printed as its term is, on a line of its own, and such lines have the module whose forms
+//! they are. No two modules have one text.
 //!
-//! Only modules that have a text today are printed: names without quotes, no attributes, moves of registers, atoms and
-//! integers, and returns.
+//! The catch: a form that nests deeper than a text may is not read again, so a module with one is not printed.
 #![tactic(auto)]
 
 mod encode;
+mod first;
 mod laws;
 mod printer;
 
 pub use encode::encoded;
-pub use laws::{examples_have_their_texts, text_has_one_module};
+pub use laws::{examples_have_their_texts, printed_modules_are_read};
 pub use printer::print;

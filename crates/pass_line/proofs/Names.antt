@@ -1,14 +1,8 @@
 -- Equal names, and names of equal characters.
-use Rattle.std.proofs.Common.{◌≡◌, List, ℕ, Bool, chars, IsUtf8, bytes_eq, sym, ap, ◌∙◌, rules, ◌&&◌, [], ◌∷◌, true, false, IsTrue, ◌↔◌}
+use Rattle.std.proofs.Common.{◌≡◌, List, ℕ, Bool, rules, ◌&&◌, true, false, IsTrue, ◌↔◌}
 use Rattle.std.specs.Bool.{Decides}
 use Rattle.std.proofs.lemmas.Bool.Decides.{same_from_decides}
-use Rattle.std.proofs.lemmas.Slice.Eq.{bytes_eq-Decides, compares_Decides}
-use Rattle.std.proofs.lemmas.Str.{encodes-chars, chars-IsAscii}
-use Rattle.std.proofs.lemmas.Str.Ascii.{IsAscii-nil, IsAscii-cons}
-use Rattle.std.specs.Char.{is_ascii}
-use Rattle.std.specs.List.{list_all}
-use Rattle.std.specs.Str.{IsAscii}
-use lib.Utf8.{encodes}
+use Rattle.std.proofs.lemmas.Slice.Eq.{compares_Decides}
 use Rattle.erl_base.specs.Names.{same_name}
 
 pub same_name-Decides : (x y : List ℕ) → Decides (same_name x y) (x ≡ y)

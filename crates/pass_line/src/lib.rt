@@ -12,9 +12,11 @@
 #![tactic(auto)]
 
 ghost use Rattle.std.specs.Prelude.{IfOk, IfErr};
-ghost use Rattle.asm_text.specs.AssemblyText.{HasText};
+ghost use Rattle.term_read.specs.TermGrammar.{most_nesting};
+ghost use Rattle.beam_table.specs.FormBounds.{FormsNest};
 ghost use Rattle.beam_table.specs.ValidModule.{Valid};
 ghost use Rattle.beam_table.specs.View.{module_view};
+ghost use Rattle.beam_table.specs.WellFormedModule.{IsWellFormedModule};
 ghost use Rattle.pass_line.specs.CompileCorrect.{IsCorrect};
 ghost use Rattle.pass_line.specs.Compiled.{HasCode, IsNotBuilt};
 
@@ -34,7 +36,8 @@ use text::plain_module;
 /// The assembly of the module whose text the bytes are. Every other text is refused as not built.
 pub fn compile(alloc: Global, bytes: &[u8]) -> Result<AsmModule, Fault>
     ensures ok { IfOk result (λ a. HasCode bytes.now (module_view a)) }
-    ensures printable { IfOk result (λ a. HasText (module_view a)) }
+    ensures nests { IfOk result (λ a. FormsNest most_nesting (module_view a)) }
+    ensures well_formed { IfOk result IsWellFormedModule }
     ensures valid { IfOk result (λ a. Valid (module_view a)) }
     ensures refused { IfErr result (λ fault. IsNotBuilt bytes.now fault) }
     ensures correct { IfOk result (λ a. IsCorrect bytes.now (module_view a)) }

@@ -3,7 +3,7 @@ use Rattle.core_form.specs.View.{module_view}
 use Rattle.pass_line.specs.PlainText.{PlainText}
 use Rattle.pass_line.proofs.Correct.{is_correct}
 use Rattle.pass_line.proofs.Plainness.{small}
-use Rattle.pass_line.proofs.Printable.{has_code, has_text_of, is_valid}
+use Rattle.pass_line.proofs.Printable.{has_code, nests_of, well_formed_of, is_valid}
 use Rattle.pass_line.proofs.compile.Goals as goal
 
 pub assembly-requires : goal.assembly-requires
@@ -15,10 +15,15 @@ returns-clause-ok c =
     let t : PlainText c.args.bytes.now (module_view c.in-Some.tree) = search rules in
     has_code c.args.bytes.now (module_view c.in-Some.tree) _ t c.in_ok-made.ensures
 
-pub returns-clause-printable : goal.returns-clause-printable
-returns-clause-printable c =
+pub returns-clause-nests : goal.returns-clause-nests
+returns-clause-nests c =
     let t : PlainText c.args.bytes.now (module_view c.in-Some.tree) = search rules in
-    has_text_of c.args.bytes.now (module_view c.in-Some.tree) _ t c.in_ok-made.ensures
+    nests_of c.args.bytes.now (module_view c.in-Some.tree) _ t c.in_ok-made.ensures
+
+pub returns-clause-well_formed : goal.returns-clause-well_formed
+returns-clause-well_formed c =
+    let t : PlainText c.args.bytes.now (module_view c.in-Some.tree) = search rules in
+    well_formed_of c.args.bytes.now (module_view c.in-Some.tree) c.in_ok-made.made t c.in_ok-made.ensures
 
 pub returns-clause-valid : goal.returns-clause-valid
 returns-clause-valid c =

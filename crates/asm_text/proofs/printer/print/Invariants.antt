@@ -1,11 +1,9 @@
-use Rattle.std.proofs.Common.{◌≡◌, ◌++◌, map, drop, [], IsTrue}
-use Rattle.beam_table.specs.View.{fun_view, module_view}
-use Rattle.beam_table.specs.ValidModule.{every}
-use Rattle.asm_text.specs.AssemblyText.{funs_on, module_text, fun_has_text}
+use Rattle.std.proofs.Common.{◌≡◌, ℕ, List, ◌++◌, true, drop}
+use Rattle.beam_table.specs.View.{module_view}
+use Rattle.asm_text.specs.PrintedModule.{module_lines, lines_on}
+use Rattle.asm_text.proofs.Rows.{fun_row}
 use Rattle.asm_text.proofs.printer.print.Given as goal
 
 abbrev pub invariant-loop-function : goal.invariant-loop-function
-invariant-loop-function l = record {
-  has_text : IsTrue (every fun_has_text (map fun_view (drop l.function-index l.a.funs)));
-  added : l.out ++ funs_on l.a.name (map fun_view (drop l.function-index l.a.funs)) [] ≡ module_text (module_view l.a);
-}
+invariant-loop-function l = (r : List ℕ) → l.out ++ fun_row l.a.name true (drop l.function-index l.a.funs) r
+    ≡ lines_on (module_lines (module_view l.a)) r

@@ -1,8 +1,12 @@
 use Rattle.std.proofs.Common.{◌∙◌}
 use Rattle.std.specs.Str.{chars}
 use Rattle.term_text.specs.TermText.{texts}
+use Rattle.term_text.proofs.Growth.{on_ok}
 use Rattle.asm_text.proofs.printer.put_label.Goals as goal
 
 pub returns : goal.returns
 unfolding chars texts
-returns c r = c.in_ok-put_str-2.ensures r ∙ c.in_ok-put_u32.ensures _ ∙ c.in_ok-put_str.ensures _
+returns c =
+    on_ok c.put_str-2.result
+    (λ e r. e r ∙ c.in_ok-put_u32.ensures _ ∙ c.in_ok-put_str.ensures _)
+    c.put_str-2.ensures

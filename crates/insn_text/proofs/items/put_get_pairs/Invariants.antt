@@ -1,0 +1,9 @@
+use Rattle.std.proofs.Common.{◌≡◌, ℕ, List, ◌++◌, true, drop}
+use Rattle.beam_table.specs.View.{get_view}
+use Rattle.insn_text.proofs.Loops.{listed}
+use Rattle.insn_text.proofs.ListedItems.{get_on}
+use Rattle.insn_text.proofs.items.put_get_pairs.Given as goal
+
+abbrev pub invariant-loop-pair : goal.invariant-loop-pair
+invariant-loop-pair l = (r : List ℕ) → l.out ++ listed get_on get_view l.first (drop l.pair-index l.pairs) r
+    ≡ l.initial.out ++ listed get_on get_view true l.pairs r
